@@ -1,0 +1,2 @@
+-- What callers cite of the checksum.
+pub mod Running
