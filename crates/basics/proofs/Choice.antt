@@ -1,6 +1,6 @@
 -- Laws of tests: what a conjunction says, and how a statement about a choice is shown by its two cases.
 use mathlib.Core.Path.{_≡_, refl}
-use mathlib.Core.Bool.{Bool, true, false, not, _&&_, false≢true}
+use mathlib.Core.Bool.{Bool, true, false, _&&_, false≢true}
 use Rattle.basics.specs.Choice.{pick}
 
 -- a conjunction holds where both parts do

@@ -1,11 +1,10 @@
 -- Laws of `splice`: the length stays, the new part reads back, and every part beside it reads as before.
-use mathlib.Core.Path.{_≡_, refl, ap, sym, _∙_}
-use mathlib.Core.List.{List, [], _∷_, _++_}
-use Prim.Native.Nat.{ℕ, _+_, _-_, _≤_, _<_}
+use mathlib.Core.Path.{_≡_, ap, sym, _∙_}
+use mathlib.Core.List.{List, _++_}
+use Prim.Native.Nat.{ℕ, _+_, _-_, _≤_}
 use native.Mathlib.Omega.{arith}
-use native.Mathlib.Nat.{add-sub-cancel-left}
-use lib.ListN.{length, take, drop, length-append, length-take, length-drop, take-append-drop}
-use lib.Seq.{length-take-le, take-at, drop-at, take-append-le, drop-append-le, drop-drop, take-take, take-append-add, drop-append-add}
+use lib.ListN.{length, take, drop, length-append, length-drop, take-append-drop}
+use lib.Seq.{length-take-le, take-at, drop-at, take-append-le, drop-append-le, drop-drop}
 use Rattle.basics.specs.Lists.{part, splice}
 
 module _ {A : Type 0} (a n : ℕ) (ys xs : List A) (fits : a + n ≤ length xs) (size : length ys ≡ n) where

@@ -1,0 +1,54 @@
+-- What the proofs of the functions cite: the checksum run on from the seq, and the test for erased bytes without a branch.
+use mathlib.Core.Path.{_≡_, refl, sym, ap, _∙_}
+use mathlib.Core.Bool.{Bool, true, _&&_, and-true}
+use mathlib.Core.List.{List}
+use Prim.Native.Nat.{ℕ, _+_, _*_, _<_}
+use native.Mathlib.Omega.{arith}
+use lib.Bits.{bitAnd, and-le-l, and-le-r}
+use lib.Dec.{eqb}
+use lib.ListN.{length, getD}
+use borrow.Author.Tests.{eq-eqb, eqb-true}
+use Rattle.basics.specs.Lists.{same}
+use Rattle.basics.specs.Little.{leBytes, leNumber}
+use Rattle.basics.proofs.Lists.{read, read-part}
+use Rattle.basics.proofs.Little.{le-append}
+use Rattle.basics.proofs.Choice.{alike, both, first, second}
+use Rattle.crc.specs.Register.{initial, crc32Of}
+use Rattle.crc.proofs.Running.{crc-parts}
+use Rattle.codec.specs.Bodies.{valueIn}
+use Rattle.codec.specs.Slots.{crcUnder, crcFrom, seqFed, magic, magicAt}
+
+-- the checksum from the register that the seq left is the checksum under the seq
+pub from-under : (seq : ℕ) (bytes : List ℕ) → crcFrom (seqFed seq) bytes ≡ crcUnder seq bytes
+unfolding crcUnder crcFrom seqFed
+from-under seq bytes = sym (crc-parts (leBytes 4 seq) bytes)
+
+-- two bytes leave FF between them where each is FF
+pub and-full : (x y : ℕ) → x < 256 → y < 256 → eqb (bitAnd x y) 0xFF ≡ (eqb x 0xFF && eqb y 0xFF)
+and-full x y hx hy = alike (eqb (bitAnd x y) 0xFF) (eqb x 0xFF && eqb y 0xFF) apart together
+  where
+    apart : eqb (bitAnd x y) 0xFF ≡ true → eqb x 0xFF && eqb y 0xFF ≡ true
+    apart e =
+        let full = eqb-true (bitAnd x y) 0xFF e in
+        both (eq-eqb x 0xFF (omega (arith, and-le-l x y))) (eq-eqb y 0xFF (omega (arith, and-le-r x y)))
+
+    together : eqb x 0xFF && eqb y 0xFF ≡ true → eqb (bitAnd x y) 0xFF ≡ true
+    together e =
+        rw (eqb-true x 0xFF (first (eqb x 0xFF) (eqb y 0xFF) e), eqb-true y 0xFF (second (eqb x 0xFF) (eqb y 0xFF) e))
+
+-- the four bytes of the magic, one by one
+pub magic-read : (slot : List ℕ) → length slot ≡ 16
+    → magicAt slot ≡ (eqb (getD slot 0 0) 0x50 && (eqb (getD slot 1 0) 0x32 && (eqb (getD slot 2 0) 0x52 && eqb (getD slot 3 0) 0x43)))
+unfolding same
+magic-read slot h =
+    ap (λ (l : List ℕ). same l magic) (sym (read-part 4 0 slot (omega arith)))
+    ∙ ap (λ (t : Bool). eqb (getD slot 0 0) 0x50 && (eqb (getD slot 1 0) 0x32 && (eqb (getD slot 2 0) 0x52 && t))) (and-true (eqb (getD slot 3 0) 0x43))
+
+-- the checksum from the start is the whole checksum
+pub from-start : (bytes : List ℕ) → crcFrom initial bytes ≡ crc32Of bytes
+unfolding crcFrom crc32Of
+from-start bytes = refl
+
+-- a number of eight bytes, from its two halves
+pub halves : (body : List ℕ) → length body ≡ 10 → leNumber (read 4 2 body) + 4294967296 * leNumber (read 4 6 body) ≡ valueIn body
+halves body size = sym (le-append (read 4 2 body) (read 4 6 body)) ∙ ap leNumber (read-part 8 2 body (omega arith))
