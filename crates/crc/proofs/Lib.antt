@@ -1,2 +1,10 @@
--- What callers cite of the checksum.
+-- Callers cite Running and Bounds. Check has the theorems on the standard; the others lead up to them.
 pub mod Running
+pub mod Bounds
+pub mod Polynomials
+pub mod Numbers
+pub mod Linear
+pub mod Serial
+pub mod Division
+pub mod Remainder
+pub mod Check

@@ -1,6 +1,7 @@
 // CRC-32 of IEEE 802.3: of bytes at once, and as a register that is run on, part after part.
 ghost use mathlib.Core.Path.{_≡_};
 ghost use Rattle.basics.specs.Little.{leBytes};
+ghost use Rattle.crc.specs.Ieee.{IsCheck, message, bits};
 ghost use Rattle.crc.specs.Register.{turn, eat, feed, initial, finished, crc32Of};
 
 // The reflected polynomial.
@@ -64,4 +65,11 @@ pub fn crc32(bytes: &[u8]) -> u32
     ensures { λ r. ⌜ r ≡ crc32Of (now (bytes .entry)) ⌝ }
 {
     finish(update(start(), bytes))
+}
+
+// The checksum of bytes, in the words of the standard.
+pub fn crc32_ieee(bytes: &[u8]) -> u32
+    ensures { λ r. ⌜ IsCheck (message (now (bytes .entry))) (bits 32 r) ⌝ }
+{
+    crc32(bytes)
 }
