@@ -1,4 +1,4 @@
--- Callers cite Running and Bounds. Check has the theorems on the standard; the others lead up to them.
+-- Callers cite Running and Bounds. Check has the theorems on the standard, Detect those on errors; the others lead up to them.
 pub mod Running
 pub mod Bounds
 pub mod Polynomials
@@ -8,3 +8,4 @@ pub mod Serial
 pub mod Division
 pub mod Remainder
 pub mod Check
+pub mod Detect
