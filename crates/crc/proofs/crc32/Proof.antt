@@ -1,5 +1,7 @@
 -- `crc::crc32` meets its contract.
-use Rattle.crc.specs.Register.{crc32Of}
+use mathlib.Core.Path.{ap, _∙_}
+use Prim.Native.Nat.{ℕ}
+use Rattle.crc.specs.Register.{feed, finished, crc32Of}
 use borrow.Author.Needs.{needs}
 use Rattle.crc.proofs.crc32.Statement.{statement}
 use Rattle.crc.proofs.crc32.Tie as tie
@@ -15,7 +17,10 @@ finish-requires c κs = search needs
 
 returns : tie.Need-returns
 unfolding crc32Of
-returns c = cc
+returns c =
+    let bytes = c .before .before .before .before .args .bytes .now in
+    c .finish .ensures
+    ∙ ap finished (c .before .update .ensures ∙ ap (λ (s : ℕ). feed s bytes) (c .before .before .start .ensures))
 
 pub crc32-spec : {M : Type 1} → statement M
 crc32-spec = tie.close (tie.spec start-requires update-requires finish-requires returns)
