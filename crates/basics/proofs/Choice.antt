@@ -1,6 +1,9 @@
 -- Laws of tests: what a conjunction says, and how a statement about a choice is shown by its two cases.
-use mathlib.Core.Path.{_≡_, refl}
-use mathlib.Core.Bool.{Bool, true, false, _&&_, false≢true}
+use mathlib.Core.Path.{_≡_, refl, ap}
+use mathlib.Core.Bool.{Bool, true, false, not, _&&_, false≢true}
+use Prim.Native.Nat.{ℕ}
+use lib.Dec.{ltb, leb}
+use borrow.Author.Tests.{le-ltb, le-leb, ltb-false, leb-true, not-true}
 use Rattle.basics.specs.Choice.{pick}
 
 -- a conjunction holds where both parts do
@@ -31,3 +34,10 @@ alike false false f g = refl
 pub by-test {ℓ κ} : {A : Type ℓ} (P : A → Type κ) (b : Bool) (x y : A) → (b ≡ true → P x) → (b ≡ false → P y) → P (pick b x y)
 by-test P true x y f g = f refl
 by-test P false x y f g = g refl
+
+-- a test of "smaller" that fails is a test of "not above"
+pub not-ltb : (a b : ℕ) → not (ltb a b) ≡ leb b a
+not-ltb a b =
+    alike (not (ltb a b)) (leb b a)
+    (λ e. le-leb b a (ltb-false a b (not-true (ltb a b) e)))
+    (λ e. ap not (le-ltb a b (leb-true b a e)))
