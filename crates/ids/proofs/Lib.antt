@@ -1,0 +1,2 @@
+-- The laws of ids and counters, which callers cite.
+pub mod Laws

@@ -1,0 +1,190 @@
+// What the numbers in a record stand for: credentials, device values and the anchor,
+// and the counter of failed tries that is kept for each credential.
+use basics::Answer;
+ghost use mathlib.Core.Path.{_≡_};
+ghost use Rattle.ids.specs.Ids.{credentials, placeOf, isCredential, isValue, meaningOf, isMonotonic};
+ghost use Rattle.ids.specs.Counters.{freshOf, remainingOf, failedOf, resetOf};
+
+// The credential numbers in their order, for look-up too.
+const CREDENTIALS: [u8; 7] = [0x01, 0x02, 0x03, 0x11, 0x12, 0x21, 0x22];
+
+// The ids of the device values; the numbers stand on flash, so they never change.
+pub const LAMPORT: u8 = 1;
+
+pub const POOL_CLOCK: u8 = 2;
+
+pub const POOL_CONFIG: u8 = 3;
+
+pub const POOL_SEQ: u8 = 4;
+
+pub const SIGNATURE_COUNTER: u8 = 5;
+
+pub const STORE_DEGRADED_OPENS: u8 = 6;
+
+pub const STORE_REANCHORS: u8 = 7;
+
+pub const STORE_LAST_REANCHOR: u8 = 8;
+
+// The tag of each kind of record.
+pub const COUNTER_TAG: u8 = 0x52;
+
+pub const VALUE_TAG: u8 = 0x4C;
+
+pub const ANCHOR_TAG: u8 = 0x41;
+
+// The highest total of failures that a record holds.
+const TOTAL_MAX: u32 = 4_294_967_295;
+
+// The highest head_seq that fits the 48 bits of an anchor record.
+pub const ANCHOR_SEQ_MAX: u64 = 281_474_976_710_655;
+
+// Where a number stands in the table of credentials.
+pub enum Place {
+    At(usize),
+    Unknown,
+}
+
+// What a tag and id mean; a free value may fall, a monotonic one may not.
+pub enum Meaning {
+    Credential(usize),
+    Monotonic,
+    Free,
+    Anchor,
+    Unknown,
+}
+
+// The counter of one credential: failures ever, their number at the last reset, and the tries granted then.
+pub struct CounterState {
+    pub total: u32,
+    pub at_reset: u32,
+    pub allowance: u8,
+}
+
+// The state that follows, or why there is none.
+pub enum Next {
+    State(CounterState),
+    Refused(Answer),
+}
+
+pub struct Anchor {
+    pub format_gen: u16,
+    pub head_seq: u64,
+    pub head_slot: u16,
+}
+
+pub fn place_of(id: u8) -> Place
+    ensures { λ r. ⌜ r ≡ placeOf credentials id ⌝ }
+{
+    for i in 0..CREDENTIALS.len() {
+        if CREDENTIALS[i] == id {
+            return Place::At(i);
+        }
+    }
+    Place::Unknown
+}
+
+pub fn is_credential(id: u8) -> bool
+    ensures { λ r. ⌜ r ≡ isCredential id ⌝ }
+{
+    match place_of(id) {
+        Place::At(_) => true,
+        Place::Unknown => false,
+    }
+}
+
+pub fn is_value(id: u8) -> bool
+    ensures { λ r. ⌜ r ≡ isValue id ⌝ }
+{
+    match id {
+        LAMPORT..=STORE_LAST_REANCHOR => true,
+        _ => false,
+    }
+}
+
+pub fn meaning_of(tag: u8, id: u8) -> Meaning
+    ensures { λ r. ⌜ r ≡ meaningOf tag id ⌝ }
+{
+    match tag {
+        COUNTER_TAG => match place_of(id) {
+            Place::At(i) => Meaning::Credential(i),
+            Place::Unknown => Meaning::Unknown,
+        },
+        VALUE_TAG => match id {
+            POOL_CONFIG | SIGNATURE_COUNTER | STORE_LAST_REANCHOR => Meaning::Free,
+            LAMPORT..=STORE_LAST_REANCHOR => Meaning::Monotonic,
+            _ => Meaning::Unknown,
+        },
+        ANCHOR_TAG => match id {
+            0 => Meaning::Anchor,
+            _ => Meaning::Unknown,
+        },
+        _ => Meaning::Unknown,
+    }
+}
+
+// An unknown id is not monotonic: of such records the last one counts.
+pub fn is_monotonic(tag: u8, id: u8) -> bool
+    ensures { λ r. ⌜ r ≡ isMonotonic tag id ⌝ }
+{
+    match meaning_of(tag, id) {
+        Meaning::Credential(_) => false,
+        Meaning::Monotonic => true,
+        Meaning::Free => false,
+        Meaning::Anchor => false,
+        Meaning::Unknown => false,
+    }
+}
+
+impl CounterState {
+    // A credential that nobody has tried yet.
+    pub fn fresh(allowance: u8) -> Self
+        ensures { λ r. ⌜ r ≡ freshOf allowance ⌝ }
+    {
+        CounterState {
+            total: 0,
+            at_reset: 0,
+            allowance,
+        }
+    }
+
+    // A number at reset above the total reads as no tries left, rather than as extra ones.
+    pub fn remaining(self) -> u8
+        ensures { λ r. ⌜ r ≡ remainingOf self ⌝ }
+    {
+        let total = self.total;
+        let at_reset = self.at_reset;
+        let allowance = self.allowance as u32;
+        if total < at_reset {
+            return 0;
+        }
+        let spent = total - at_reset;
+        if allowance < spent {
+            return 0;
+        }
+        (allowance - spent) as u8
+    }
+
+    // The total never wraps: that would hand back tries.
+    pub fn after_failure(self) -> Next
+        ensures { λ r. ⌜ r ≡ failedOf self ⌝ }
+    {
+        if self.total == TOTAL_MAX {
+            return Next::Refused(Answer::WriteError);
+        }
+        Next::State(CounterState {
+            total: self.total + 1,
+            at_reset: self.at_reset,
+            allowance: self.allowance,
+        })
+    }
+
+    pub fn after_reset(self, tries: u8) -> Self
+        ensures { λ r. ⌜ r ≡ resetOf self tries ⌝ }
+    {
+        CounterState {
+            total: self.total,
+            at_reset: self.total,
+            allowance: tries,
+        }
+    }
+}
