@@ -1,22 +1,20 @@
 -- What the proofs of the functions cite: the checksum run on from the seq, and the test for erased bytes without a branch.
 use mathlib.Core.Path.{_≡_, refl, sym, ap, _∙_}
-use mathlib.Core.Bool.{Bool, true, _&&_, and-true}
-use mathlib.Core.List.{List}
-use Prim.Native.Nat.{ℕ, _+_, _*_, _<_}
+use mathlib.Core.Bool.{Bool, true, _&&_, and-true, and-false}
+use mathlib.Core.List.{List, [], _∷_}
+use Prim.Native.Nat.{ℕ, _<_}
 use native.Mathlib.Omega.{arith}
 use lib.Bits.{bitAnd, and-le-l, and-le-r}
 use lib.Dec.{eqb}
-use lib.ListN.{length, getD}
+use lib.ListN.{length, getD, take}
 use borrow.Author.Tests.{eq-eqb, eqb-true}
-use Rattle.basics.specs.Lists.{same}
-use Rattle.basics.specs.Little.{leBytes, leNumber}
-use Rattle.basics.proofs.Lists.{read, read-part}
-use Rattle.basics.proofs.Little.{le-append}
+use Rattle.basics.specs.Lists.{same, allAre}
+use Rattle.basics.specs.Little.{leBytes}
+use Rattle.basics.proofs.Lists.{read-part}
 use Rattle.basics.proofs.Choice.{alike, both, first, second}
 use Rattle.crc.specs.Register.{initial, crc32Of}
 use Rattle.crc.proofs.Running.{crc-parts}
-use Rattle.codec.specs.Bodies.{valueIn}
-use Rattle.codec.specs.Slots.{crcUnder, crcFrom, seqFed, magic, magicAt}
+use Rattle.codec.specs.Slots.{crcUnder, crcFrom, seqFed, magic, magicAt, decodedWith, decoded, none}
 
 -- the checksum from the register that the seq left is the checksum under the seq
 pub from-under : (seq : ℕ) (bytes : List ℕ) → crcFrom (seqFed seq) bytes ≡ crcUnder seq bytes
@@ -49,6 +47,13 @@ pub from-start : (bytes : List ℕ) → crcFrom initial bytes ≡ crc32Of bytes
 unfolding crcFrom crc32Of
 from-start bytes = refl
 
--- a number of eight bytes, from its two halves
-pub halves : (body : List ℕ) → length body ≡ 10 → leNumber (read 4 2 body) + 4294967296 * leNumber (read 4 6 body) ≡ valueIn body
-halves body size = sym (le-append (read 4 2 body) (read 4 6 body)) ∙ ap leNumber (read-part 8 2 body (omega arith))
+-- a record read from the register that the seq left is the record under the seq
+pub decoded-from : (seq : ℕ) (slot : List ℕ) → decodedWith (crcFrom (seqFed seq) (take 12 slot)) slot ≡ decoded seq slot
+unfolding decoded
+decoded-from seq slot = ap (λ (check : ℕ). decodedWith check slot) (from-under seq (take 12 slot))
+
+-- an erased slot is no record
+pub erased-none : (seq : ℕ) (slot : List ℕ) → allAre 0xFF slot ≡ true → decoded seq slot ≡ none
+unfolding decoded decodedWith allAre
+erased-none seq [] e = refl
+erased-none seq (b ∷ bs) e = rw (first (eqb b 0xFF) (allAre 0xFF bs) e, and-false)

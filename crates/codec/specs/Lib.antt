@@ -1,3 +1,2 @@
--- "Slot layouts": the sixteen bytes of a slot, then the ten of a body.
+-- "Slot layouts": the sixteen bytes of a slot.
 pub mod Slots
-pub mod Bodies

@@ -1,10 +1,9 @@
-// The slot codec: sixteen bytes as a header or a record, both ways, and the ten-byte bodies of counters, values and anchors.
+// The slot codec: sixteen bytes as a header or as a record, both ways, under the checksum of the sector.
 ghost use mathlib.Core.Path.{_≡_};
 ghost use mathlib.Core.List.{_∷_};
 ghost use lib.ListN.{length, take};
 ghost use Rattle.basics.specs.Lists.{allAre};
 ghost use Rattle.codec.specs.Slots.{crcFrom, crcIn, seqFed, sealed, headerBytes, headerSlot, bytesOf, slotOf, noRaw, rawOf, headerOf, magicAt, decodedWith, decoded, none};
-ghost use Rattle.codec.specs.Bodies.{valueIn};
 
 // A record's payload by tag and id: bytes 0, 1 and 2..11 of its slot.
 pub struct Raw {
@@ -244,15 +243,5 @@ impl Raw {
         ensures { λ r. ⌜ r ≡ decoded seq (now (slot .entry)) ⌝ }
     {
         Raw::decode_from(slot, under(seq))
-    }
-
-    // The number in a value's body.
-    pub fn value(self) -> u64
-        ensures { λ r. ⌜ r ≡ valueIn (self .body) ⌝ }
-    {
-        let b = self.body;
-        let low = basics::number4(b[2], b[3], b[4], b[5]);
-        let high = basics::number4(b[6], b[7], b[8], b[9]);
-        basics::joined(low, high)
     }
 }

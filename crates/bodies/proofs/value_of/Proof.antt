@@ -1,11 +1,11 @@
--- `codec::Raw::value` meets its contract.
+-- `bodies::value_of` meets its contract.
 use mathlib.Core.Path.{ap₂, _∙_}
 use Prim.Native.Nat.{ℕ, _+_, _*_}
-use Rattle.codec.proofs.Laws.{halves}
 use Rattle.codec.proofs.Owned.{ten}
+use Rattle.bodies.proofs.Fields.{field8}
 use borrow.Author.Needs.{needs}
-use Rattle.codec.proofs.Raw.value.Statement.{statement}
-use Rattle.codec.proofs.Raw.value.Tie as tie
+use Rattle.bodies.proofs.value_of.Statement.{statement}
+use Rattle.bodies.proofs.value_of.Tie as tie
 
 array-read-number4 : tie.Need-array-read-number4
 array-read-number4 c = search needs
@@ -43,13 +43,13 @@ joined-requires c κs = search needs
 returns : tie.Need-returns
 returns c =
     let s0 = c .before .before .before .before in
-    let r = s0 .args .self in
+    let r = s0 .args .raw in
     c .joined .ensures
     ∙ ap₂ (λ (x y : ℕ). x + 4294967296 * y) (c .before .before .number4 .ensures) (c .before .number42 .ensures)
-    ∙ halves (r .body) (ten r (s0 .good .0))
+    ∙ field8 (r .body) (ten r (s0 .good .0))
 
-pub value-spec : {M : Type 1} → statement M
-value-spec =
+pub value-of-spec : {M : Type 1} → statement M
+value-of-spec =
     tie.close
     (tie.spec
     array-read-number4
