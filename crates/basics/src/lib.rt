@@ -2,7 +2,7 @@
 ghost use mathlib.Core.Path.{_≡_};
 ghost use mathlib.Core.List.{_∷_, []};
 ghost use Prim.Native.Nat.{_+_, _*_};
-ghost use Rattle.basics.specs.Answers.{numberOf};
+ghost use Rattle.basics.specs.Answers.{numberOf, isDone};
 ghost use Rattle.basics.specs.Little.{leBytes, leNumber};
 
 // What a call answers, in the order of the numbers 0 to 9.
@@ -34,6 +34,12 @@ pub fn number(answer: Answer) -> u8
         Answer::KeystoreFull => 8,
         Answer::IntegrityFailure => 9,
     }
+}
+
+pub fn is_done(answer: Answer) -> bool
+    ensures { λ r. ⌜ r ≡ isDone answer ⌝ }
+{
+    number(answer) == 0
 }
 
 pub fn bytes2(x: u16) -> [u8; 2]
