@@ -1,0 +1,3 @@
+-- The record table, and the log that holds it.
+pub mod Table
+pub mod Logs
