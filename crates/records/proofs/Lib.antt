@@ -2,3 +2,4 @@
 pub mod Finding
 pub mod Joining
 pub mod Places
+pub mod Keys

@@ -2,3 +2,4 @@
 pub mod Choosing
 pub mod Winning
 pub mod Reading
+pub mod Viewing
