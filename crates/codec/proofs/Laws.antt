@@ -14,7 +14,8 @@ use Rattle.basics.proofs.Lists.{read-part}
 use Rattle.basics.proofs.Choice.{alike, both, first, second}
 use Rattle.crc.specs.Register.{initial, crc32Of}
 use Rattle.crc.proofs.Running.{crc-parts}
-use Rattle.codec.specs.Slots.{crcUnder, crcFrom, seqFed, magic, magicAt, decodedWith, decoded, none}
+use Rattle.codec.specs.declared.Raw.{Raw}
+use Rattle.codec.specs.Slots.{crcUnder, crcFrom, seqFed, magic, magicAt, sealed, bytesOf, slotOf, decodedWith, decoded, none}
 
 -- the checksum from the register that the seq left is the checksum under the seq
 pub from-under : (seq : ℕ) (bytes : List ℕ) → crcFrom (seqFed seq) bytes ≡ crcUnder seq bytes
@@ -57,3 +58,8 @@ pub erased-none : (seq : ℕ) (slot : List ℕ) → allAre 0xFF slot ≡ true �
 unfolding decoded decodedWith allAre
 erased-none seq [] e = refl
 erased-none seq (b ∷ bs) e = rw (first (eqb b 0xFF) (allAre 0xFF bs) e, and-false)
+
+-- and a record written from it is the slot under the seq
+pub sealed-from : (seq : ℕ) (r : Raw) → sealed (crcFrom (seqFed seq) (bytesOf r)) (bytesOf r) ≡ slotOf seq r
+unfolding slotOf
+sealed-from seq r = ap (λ (check : ℕ). sealed check (bytesOf r)) (from-under seq (bytesOf r))
