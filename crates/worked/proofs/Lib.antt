@@ -1,0 +1,2 @@
+-- The starred cases are as the paper says.
+pub mod Table

@@ -1,0 +1,2 @@
+-- "Worked by hand", the starred cases.
+pub mod Table

@@ -1,0 +1,47 @@
+-- "Worked by hand (★ is proved, all ★ in a single table)": the starred cases in the paper's order,
+-- each with what the definitions give and what the paper says. A single number is a list of one.
+use mathlib.Core.List.{List, [], _∷_}
+use Prim.Native.Nat.{ℕ, _-_, _^_}
+use Rattle.basics.specs.Answers.{numberOf}
+use Rattle.crc.specs.Register.{crc32Of}
+use Rattle.ids.specs.declared.CounterState.{CounterState}
+use Rattle.ids.specs.declared.Anchor.{Anchor}
+use Rattle.ids.specs.Ids.{lamport}
+use Rattle.ids.specs.Counters.{remainingOf}
+use Rattle.codec.specs.Slots.{headerBytes, bytesOf}
+use Rattle.bodies.specs.Bodies.{counterRecord, valueRecord, anchorRecord}
+
+pub record Row : Type 0 where
+  pub given : List ℕ
+  pub said : List ℕ
+
+abbrev counter : ℕ → ℕ → ℕ → CounterState
+counter allowance total atReset = record { total = total; «at_reset» = atReset; allowance = allowance }
+
+abbrev anchor : ℕ → ℕ → ℕ → Anchor
+anchor gen seq slot = record { «format_gen» = gen; «head_seq» = seq; «head_slot» = slot }
+
+abbrev row : List ℕ → List ℕ → Row
+row given said = record { given = given; said = said }
+
+unfoldable pub table : List Row
+table =
+    -- 1. "Header body, seq 1: 50 32 52 43 01 00 00 00 02 00 00 00."
+    row (headerBytes 1) (0x50 ∷ 0x32 ∷ 0x52 ∷ 0x43 ∷ 0x01 ∷ 0x00 ∷ 0x00 ∷ 0x00 ∷ 0x02 ∷ 0x00 ∷ 0x00 ∷ 0x00 ∷ [])
+    -- "CRC of ASCII 123456789 is CBF43926."
+    ∷ row (crc32Of (0x31 ∷ 0x32 ∷ 0x33 ∷ 0x34 ∷ 0x35 ∷ 0x36 ∷ 0x37 ∷ 0x38 ∷ 0x39 ∷ []) ∷ []) (0xCBF4_3926 ∷ [])
+    -- 2. "User PIN, allowance 3, total 5, at-reset 4: 52 01 03 00 05 00 00 00 04 00 00 00;"
+    ∷ row (bytesOf (counterRecord 0x01 (counter 3 5 4))) (0x52 ∷ 0x01 ∷ 0x03 ∷ 0x00 ∷ 0x05 ∷ 0x00 ∷ 0x00 ∷ 0x00 ∷ 0x04 ∷ 0x00 ∷ 0x00 ∷ 0x00 ∷ [])
+    -- "remaining 2."
+    ∷ row (remainingOf (counter 3 5 4) ∷ []) (2 ∷ [])
+    -- 3. "Lamport 258: 4C 01 00 00 02 01 00 00 00 00 00 00."
+    ∷ row (bytesOf (valueRecord lamport 258)) (0x4C ∷ 0x01 ∷ 0x00 ∷ 0x00 ∷ 0x02 ∷ 0x01 ∷ 0x00 ∷ 0x00 ∷ 0x00 ∷ 0x00 ∷ 0x00 ∷ 0x00 ∷ [])
+    -- 4. "Anchor 7, 2^48 − 1, 9: 41 00 07 00 FF FF FF FF FF FF 09 00;"
+    ∷ row (bytesOf (anchorRecord (anchor 7 (2 ^ 48 - 1) 9) .raw)) (0x41 ∷ 0x00 ∷ 0x07 ∷ 0x00 ∷ 0xFF ∷ 0xFF ∷ 0xFF ∷ 0xFF ∷ 0xFF ∷ 0xFF ∷ 0x09 ∷ 0x00 ∷ [])
+    -- "head_seq 2^48 gives 6."
+    ∷ row (numberOf (anchorRecord (anchor 7 (2 ^ 48) 9) .answer) ∷ []) (6 ∷ [])
+    -- 5. "Total 1, at-reset 2: remaining 0."
+    ∷ row (remainingOf (counter 3 1 2) ∷ []) (0 ∷ [])
+    -- "Allowance 3, total 4, at-reset 0: 0."
+    ∷ row (remainingOf (counter 3 4 0) ∷ []) (0 ∷ [])
+    ∷ []
