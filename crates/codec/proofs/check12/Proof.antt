@@ -21,7 +21,7 @@ finish-requires c κs = search needs
 
 returns : tie.Need-returns
 unfolding crcFrom
-returns c = cc
+returns c = rw (c .finish .ensures, c .before .update .ensures)
 
 pub check12-spec : {M : Type 1} → statement M
 check12-spec =

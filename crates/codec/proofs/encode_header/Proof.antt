@@ -18,7 +18,7 @@ seal-requires c κs = search needs
 
 returns : tie.Need-returns
 unfolding headerSlot
-returns c = cc
+returns c = rw (c .seal .ensures, c .before .crc32 .ensures, c .before .before .before .header-bytes .ensures)
 
 pub encode-header-spec : {M : Type 1} → statement M
 encode-header-spec =

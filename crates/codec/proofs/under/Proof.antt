@@ -12,7 +12,7 @@ update-word-requires c κs = search needs
 
 returns : tie.Need-returns
 unfolding seqFed
-returns c = cc
+returns c = rw (c .update-word .ensures, c .before .start .ensures)
 
 pub under-spec : {M : Type 1} → statement M
 under-spec = tie.close (tie.spec start-requires update-word-requires returns)

@@ -21,7 +21,7 @@ seal-requires c κs = search needs
 
 returns : tie.Need-returns
 unfolding crcFrom
-returns c = cc
+returns c = rw (c .seal .ensures, c .before .finish .ensures, c .before .before .update .ensures, c .before .before .before .before .bytes .ensures)
 
 pub encode-from-spec : {M : Type 1} → statement M
 encode-from-spec =
