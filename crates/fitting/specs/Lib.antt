@@ -1,0 +1,3 @@
+-- The BadLog test, and what a look over a log finds.
+pub mod Fitting
+pub mod Steps
