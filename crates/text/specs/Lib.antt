@@ -1,0 +1,2 @@
+-- Text in a lent buffer.
+pub mod Text
