@@ -1,6 +1,6 @@
 -- Laws of putting text: where it ends, how two puts make one, and how a long text is put piece by piece.
-use mathlib.Core.Path.{_≡_, refl, sym, ap, ap₂, _∙_}
-use mathlib.Core.List.{List, [], _∷_, _++_, append-assoc, append-nil}
+use mathlib.Core.Path.{_≡_, refl, sym, ap, ap₂, subst, _∙_}
+use mathlib.Core.List.{List, [], _∷_, _++_, append-assoc}
 use Prim.Native.Nat.{ℕ, _+_, _≤_, _<_}
 use native.Mathlib.Numerals.{add-one}
 use native.Mathlib.Omega.{arith}
@@ -71,6 +71,10 @@ module _ {before : List ℕ} {at : ℕ} {whole : List ℕ} (room : at + length w
     pub same-room : length after ≡ length before
     same-room = put-length (b .stands) (omega (arith, sizes))
 
+  -- and so has its first piece
+  pub piece-fits : (t rest : List ℕ) {after : List ℕ} {r : ℕ} → Begun before at whole (t ++ rest) after r → r + length t ≤ length after
+  piece-fits t rest b = omega (arith, room-left b, length-append t rest)
+
   -- the next piece
   pub next : {t rest middle after : List ℕ} {q r : ℕ} → Begun before at whole (t ++ rest) middle q → Puts middle q t after r → Begun before at whole rest after r
   next {t} {rest} b p = record {
@@ -79,11 +83,10 @@ module _ {before : List ℕ} {at : ℕ} {whole : List ℕ} (room : at + length w
     lacks = append-assoc (b .done) t rest ∙ b .lacks;
   }
 
--- and the end
-pub ended : {before whole after : List ℕ} {at r : ℕ} → Begun before at whole [] after r → Puts before at whole after r
-ended {before} {whole} {after} {at} {r} b =
-    let all : b .done ≡ whole = sym (append-nil (b .done)) ∙ b .lacks in
-    record {
-      past = b .stands .past ∙ ap (λ (l : List ℕ). at + length l) all;
-      left = b .stands .left ∙ ap (λ (l : List ℕ). splice at (length l) l before) all;
-    }
+  -- the last piece
+  pub last : {t middle after : List ℕ} {q r : ℕ} → Begun before at whole t middle q → Puts middle q t after r → Puts before at whole after r
+  last {t} {middle} {after} {q} {r} b p = subst (λ (l : List ℕ). Puts before at l after r) (b .lacks) (put-then before at (b .done) t (omega (arith, sizes b)) (b .stands) p)
+
+  -- nothing is left
+  pub ended : {after : List ℕ} {r : ℕ} → Begun before at whole [] after r → Puts before at whole after r
+  ended {after} {r} b = last b (put-none after r)

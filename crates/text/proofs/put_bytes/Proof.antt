@@ -55,7 +55,7 @@ returns : tie.Need-returns Inv-loop μ-loop
 returns c =
     let l = c .before in
     let bytes = l .before .args .bytes .now in
-    ended (subst (λ (r : List ℕ). Begun (l .before .args .out .now) (l .before .args .at) bytes r (l .loop .out) (l .loop .to)) (drop-of-length-le bytes {i = l .loop .i} (omega arith)) (l .loop .inv .1))
+    ended (l .before .pre) (subst (λ (r : List ℕ). Begun (l .before .args .out .now) (l .before .args .at) bytes r (l .loop .out) (l .loop .to)) (drop-of-length-le bytes {i = l .loop .i} (omega arith)) (l .loop .inv .1))
 
 pub put-bytes-spec : {M : Type 1} → statement M
 put-bytes-spec =

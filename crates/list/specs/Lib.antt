@@ -1,0 +1,2 @@
+-- The listing of an image.
+pub mod Listing
