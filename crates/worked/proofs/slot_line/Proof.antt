@@ -1,5 +1,5 @@
 -- `worked::slot_line` is safe and ends.
-use Prim.Native.Nat.{_-_, _≤_}
+use Prim.Native.Nat.{_-_}
 use native.Mathlib.Omega.{arith}
 use borrow.Author.Needs.{needs}
 use Rattle.worked.proofs.slot_line.Statement.{statement}
