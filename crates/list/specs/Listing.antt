@@ -1,6 +1,6 @@
 -- The listing of document 01, worked case 8: "state, sector, seq, head, records, then bytes 0..11 of each in table order".
 use mathlib.Core.List.{List, [], _∷_, _++_}
-use Prim.Native.Nat.{ℕ}
+use Prim.Native.Nat.{ℕ, _+_, _*_}
 use lib.Dec.{ltb}
 use Rattle.basics.specs.Choice.{pick}
 use Rattle.basics.specs.Answers.{isDone}
@@ -8,6 +8,7 @@ use Rattle.codec.specs.declared.Raw.{Raw}
 use Rattle.records.specs.declared.State.{State}
 use Rattle.records.specs.declared.State.the-variants.{Unformatted, Failed, Active}
 use Rattle.records.specs.declared.Log.{Log}
+use Rattle.records.specs.Table.{limit}
 use Rattle.records.specs.Logs.{recordsOf}
 use Rattle.scan.specs.declared.Opened.{Opened}
 use Rattle.scan.specs.Opening.{openOf}
@@ -59,9 +60,9 @@ openedListing o = pick (isDone (o .answer)) (stateListing (o .log) (o .log .stat
 unfoldable pub listingOf : List ℕ → List ℕ
 listingOf image = openedListing (openOf image)
 
--- no listing is longer: 28 bytes for the state, 48 for each of 32 records
+-- no listing is longer: 28 bytes for the state, 48 for each record
 abbrev pub longest : ℕ
-longest = 1564
+longest = 28 + 48 * limit
 
 -- what is written into a buffer of this size: nothing where the longest listing might not fit
 unfoldable pub listingIn : ℕ → List ℕ → List ℕ

@@ -4,11 +4,12 @@ use records::LIMIT;
 use records::State;
 ghost use Prim.Native.Nat.{_+_, _≤_};
 ghost use lib.ListN.{length, take};
+ghost use Rattle.records.specs.Table.{limit};
 ghost use Rattle.text.specs.Text.{Puts};
 ghost use Rattle.list.specs.Listing.{number, activeLine, recordLine, recordLines, listingIn};
 
 // The bytes of the longest listing: 28 for the state, 48 for each record.
-pub const LONGEST: usize = 1564;
+pub const LONGEST: usize = 28 + 48 * LIMIT;
 
 // A number and the byte behind it.
 fn put_number(out: &mut [u8], at: usize, x: u64, behind: u8) -> usize
@@ -57,7 +58,7 @@ fn put_record(out: &mut [u8], at: usize, r: Raw) -> usize
 
 // The records in the first `count` places.
 fn put_records(out: &mut [u8], at: usize, table: [Raw; LIMIT], count: usize) -> usize
-    requires { ⌜ (count ≤ 32) × (at + length (recordLines (take count table)) ≤ length (now out)) ⌝ }
+    requires { ⌜ (count ≤ limit) × (at + length (recordLines (take count table)) ≤ length (now out)) ⌝ }
     ensures { λ r. ⌜ Puts (now (out .entry)) at (recordLines (take count table)) (now (out .exit)) r ⌝ }
 {
     let mut to = at;

@@ -1,4 +1,4 @@
--- Laws of decimal text: it reads back as the number, and how long it can be.
+-- Laws of decimal text: it reads back as the number, how long it can be, and how it is written from the last digit to the first.
 use mathlib.Core.Path.{_≡_, refl, sym, ap, ap₂, subst, _∙_}
 use mathlib.Core.List.{List, [], _∷_}
 use Prim.Native.Nat.{ℕ, zero, suc, _+_, _*_, _-_, _/_, _%_, _^_, _≤_, _<_}
@@ -12,11 +12,11 @@ use Rattle.basics.proofs.Choice.{by-test}
 use Rattle.text.specs.Text.{digits, decimal}
 
 -- ---- the two cases
-pub digits-last : (n x : ℕ) (more : List ℕ) → x < 10 → digits (suc n) x more ≡ (48 + x) ∷ more
+digits-last : (n x : ℕ) (more : List ℕ) → x < 10 → digits (suc n) x more ≡ (48 + x) ∷ more
 unfolding digits
 digits-last n x more h = rw (lt-ltb x 10 h)
 
-pub digits-more : (n x : ℕ) (more : List ℕ) → 10 ≤ x → digits (suc n) x more ≡ digits n (x / 10) ((48 + x % 10) ∷ more)
+digits-more : (n x : ℕ) (more : List ℕ) → 10 ≤ x → digits (suc n) x more ≡ digits n (x / 10) ((48 + x % 10) ∷ more)
 unfolding digits
 digits-more n x more h = rw (le-ltb x 10 h)
 

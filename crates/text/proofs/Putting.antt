@@ -64,12 +64,12 @@ module _ {before : List ℕ} {at : ℕ} {whole : List ℕ} (room : at + length w
     sizes : length (b .done) + length rest ≡ length whole
     sizes = sym (length-append (b .done) rest) ∙ ap length (b .lacks)
 
-    -- what is left to put has room
-    pub room-left : r + length rest ≤ length after
-    room-left = omega (arith, sizes, b .stands .past, put-length (b .stands) (omega (arith, sizes)))
-
     pub same-room : length after ≡ length before
     same-room = put-length (b .stands) (omega (arith, sizes))
+
+    -- what is left to put has room
+    pub room-left : r + length rest ≤ length after
+    room-left = omega (arith, sizes, b .stands .past, same-room)
 
   -- and so has its first piece
   pub piece-fits : (t rest : List ℕ) {after : List ℕ} {r : ℕ} → Begun before at whole (t ++ rest) after r → r + length t ≤ length after

@@ -15,7 +15,7 @@ use Rattle.records.specs.Logs.{recordsOf}
 use Rattle.scan.specs.declared.Opened.{Opened}
 use Rattle.text.specs.Text.{Puts}
 use Rattle.text.proofs.Putting.{Begun, begun, put-none, room-left, next, last}
-use Rattle.list.specs.Listing.{activeLine, recordLines, stateListing, badImage, listingIn}
+use Rattle.list.specs.Listing.{activeLine, recordLines, stateListing, badImage, longest, listingIn}
 use Rattle.list.proofs.Bounds.{Fits, opened-fits}
 use Rattle.list.proofs.Cases.{too-short, no-image, in-state}
 use Rattle.list.proofs.list.Statement.{statement}
@@ -55,7 +55,7 @@ room : (c : tie.After-state) → let o = opened c in 0 + length (stateListing (o
 room c =
     let o = opened c in
     let log = o .«open» .result .log in
-    omega (arith, o .before .if1 .left, subst (λ (s : State). length (stateListing log s) ≤ 1564) (c .state .given .1) (fits o .short))
+    omega (arith, o .before .if1 .left, subst (λ (s : State). length (stateListing log s) ≤ longest) (c .state .given .1) (fits o .short))
 
 -- the line of the state stands
 stands : (c : tie.After-put-active) → let s = c .before .before .before in let o = opened s in
