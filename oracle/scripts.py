@@ -28,9 +28,14 @@ CALLS = [
 class Draw:
     """A stream of choices that is the same everywhere for the same seed (splitmix64)."""
 
-    def __init__(self, *seed):
-        text = " ".join(map(str, seed)).encode()
+    def __init__(self, seed, kind, number):
+        self.number = number
+        text = f"{seed} {kind} {number}".encode()
         self.state = int.from_bytes(hashlib.sha256(text).digest()[:8], "little")
+
+    def turn(self, items, every=1):
+        """Each item in its turn, case after case, or once in so many cases."""
+        return items[self.number // every % len(items)]
 
     def word(self):
         self.state = (self.state + 0x9E3779B97F4A7C15) & MAX64
@@ -384,13 +389,49 @@ def session(d, whole):
 def heads(d, whole):
     """Writes at head 1, near 255 and at 256, with 0 to 4 refused programs or refused erases."""
     sectors = some_sectors(d)
-    head = d.pick([1, 1, 2, 252, 253, 254, 254, 255, 255, 255, 256, 256])
+    head = d.turn([1, 255, 256, 254, 253, 2, 252])
     image = active_image(d, sectors, head)[0]
     lines = [*image.lines(), HEALTHY, "open", "save"]
     for _ in range(6):
         lines += [f"plan {d.pick(['inf', 'inf', 'inf', 70000])} {d.pick([0, 0, 0, 1])} {d.below(5)}"]
         lines += [sure_write(d), some_write(d), sure_write(d), "open", "restore"]
     return lines
+
+
+def some_heading(d, seq):
+    """A sector's first slot: good, cut, damaged, or of another version or magic."""
+    good = header(seq)
+    return d.pick([
+        b"",
+        header(seq, version=1),
+        header(seq, version=d.pick([0, 3, 255])),
+        header(seq, rest=d.bytes(3)),
+        header(seq, magic=d.pick([b"P2RD", b"p2RC", b"\0\0\0\0"])),
+        good[: d.among(1, 15)],
+        bytes(b ^ (1 << d.below(8)) if d.chance(10) else b for b in good),
+        good, good, good, good, good,
+    ])
+
+
+def some_slots(d, seq):
+    """A slot, or a row of them: good, damaged, bound to another seq, with tag FF, cut, or a value that falls."""
+    good = slot(seq, some_record(d))
+    kind = d.below(12)
+    if kind == 0:
+        return [d.bytes(16)]
+    if kind == 1:
+        return [slot(d.pick([0, seq ^ 1]), good[:12])]
+    if kind == 2:
+        return [slot(seq, b"\xff" + good[1:12])]
+    if kind == 3:
+        return [good[: d.among(1, 15)]]
+    if kind == 4:
+        return [bytes(b ^ 1 if d.chance(8) else b for b in good)]
+    if kind == 5:
+        ident, top = d.among(0, 9), some64(d)
+        falling = [top, max(0, top - d.below(2)), d.below(4)]
+        return [slot(seq, value(ident, n, d.pick([0, 0, 1]))) for n in falling]
+    return [good]
 
 
 def opening(d, whole):
@@ -400,42 +441,14 @@ def opening(d, whole):
     seqs = d.pick([[1, 2, 3], [7], [0, 1], [MAX32 - 1, MAX32], [MAX32], [0], [d.below(2**32), 5]])
     for k in range(sectors):
         seq = d.pick(seqs)
-        kind = d.below(12)
-        heading = {
-            0: b"",
-            1: header(seq, version=1),
-            2: header(seq, version=d.pick([0, 3, 255])),
-            3: header(seq, rest=d.bytes(3)),
-            4: header(seq, magic=d.pick([b"P2RD", b"p2RC", b"\0\0\0\0"])),
-            5: header(seq)[: d.among(1, 15)],
-            6: bytes(b ^ (1 << d.below(8)) if d.chance(10) else b for b in header(seq)),
-        }.get(kind, header(seq))
-        image.put(k, 0, heading)
+        image.put(k, 0, some_heading(d, seq))
         place = 1
         for _ in range(d.pick([0, 2, 6, 12])):
             place += d.pick([0, 0, 0, 0, 1, 2, 30])
-            if place > 255:
-                break
-            good = slot(seq, some_record(d))
-            sort = d.below(12)
-            if sort == 0:
-                damage(d, image, k, place)
-            elif sort == 1:
-                image.put(k, place, slot(d.pick([0, seq ^ 1]), good[:12]))
-            elif sort == 2:
-                image.put(k, place, slot(seq, b"\xff" + good[1:12]))
-            elif sort == 3:
-                image.put(k, place, good[: d.among(1, 15)])
-            elif sort == 4:
-                image.put(k, place, bytes(b ^ 1 if d.chance(8) else b for b in good))
-            elif sort == 5:
-                ident, top = d.among(0, 9), some64(d)
-                for n in [top, top - d.below(2) if top else 0, d.below(4)]:
-                    image.put(k, min(place, 255), slot(seq, value(ident, n, d.pick([0, 0, 1]))))
-                    place += 1
-            else:
-                image.put(k, place, good)
-            place += 1
+            for one in some_slots(d, seq):
+                if place < 256:
+                    image.put(k, place, one)
+                place += 1
         if d.chance(15):
             damage(d, image, k, 255)
         if d.chance(3):
@@ -447,7 +460,7 @@ def opening(d, whole):
 
 def tables(d, whole):
     """Tables of 30 to 33 keys: a known key is written, a new one gets 8, a 33rd makes the log Failed."""
-    count = d.pick([30, 31, 31, 32, 32, 32, 33, 33])
+    count = d.turn([30, 31, 32, 33, 32, 31, 32, 33])
     sectors = d.pick([1, 2, 3])
     head = d.pick([None, None, 254, 255, 256])
     records = d.shuffled(some_table(d, count, known=d.below(9)))
@@ -475,7 +488,7 @@ def tables(d, whole):
 def held_values(d, whole):
     """Records held at their limits, and calls just below, at and above: totals, values, anchors, odd records."""
     lines = [f"image {SECTOR * d.pick([1, 2, 3])}", HEALTHY]
-    kind = d.below(3)
+    kind = d.turn(range(3))
     odd = d.pick([0, 0, 1, 255])
     state = f"active 0 {d.pick([1, 5])} {d.among(1, 250)}"
     if kind == 0:
@@ -524,7 +537,7 @@ def own_logs(d, whole):
 def sequence_ends(d, whole):
     """Sequence numbers at 4294967294 and 4294967295: the last commit, and those that are refused."""
     sectors = d.pick([1, 2, 3, 4])
-    seq = d.pick([MAX32 - 3, MAX32 - 2, MAX32 - 1, MAX32])
+    seq = d.turn([MAX32 - 1, MAX32, MAX32 - 2, MAX32 - 3])
     image = active_image(d, sectors, d.pick([2, 254, 255, 256, 256]), seq=seq)[0]
     lines = [*image.lines(), HEALTHY, "open", "save"]
     for plan in [HEALTHY, "plan inf 1 0", f"plan inf 0 {d.among(1, 6)}", some_plan(d)]:
@@ -536,49 +549,53 @@ def sequence_ends(d, whole):
 
 
 def bad_logs(d, whole):
-    """Each clause of BadLog alone, at its very edge, and every call upon it."""
+    """Each clause of BadLog in turn, alone and at its very edge, and every call upon it."""
     sectors = d.pick([1, 2, 3, 16])
     records = some_table(d, d.pick([1, 2, 3, 31]))
-    sector, seq, head, next_seq, count = d.below(sectors), d.pick([1, 7, MAX32]), d.pick([1, 40, 255, 256]), 0, None
+    sector, seq, head = d.below(sectors), d.pick([1, 7, MAX32]), d.pick([1, 40, 255, 256])
     next_seq = min(seq + 1, MAX32)
-    state = None
-    clause = d.below(15)
-    if clause == 0:
-        sector = d.pick([sectors, 15, 16, 17, 255, MAX32])
-    elif clause == 1:
-        head = d.pick([0, 257, 258, 65535, 65536, 65537, MAX32])
-    elif clause == 2:
-        count = d.pick([33, 34, 255, 256, 2**32, 2**32 + 1, MAX64])
-        records = some_table(d, 32) if d.chance(50) else records
-    elif clause == 3:
+    idle, count = None, None
+    clauses = [
+        "none", "sector", "head", "over 32", "past the count", "fewer counted", "key twice", "tag FF", "next_seq 0",
+        "next_seq low", "next_seq at the maximum", "records while idle", "places while idle", "idle", "more counted",
+    ]
+    clause = d.turn(clauses)
+    edge = lambda values: d.turn(values, len(clauses))
+    if clause == "sector":
+        sector = edge([sectors, 16, 15, 17, MAX32, 255])
+    elif clause == "head":
+        head = edge([257, 0, 65537, MAX32, 258, 65535, 65536])
+    elif clause == "over 32":
+        records = some_table(d, 32) if d.chance(80) else records
+        count = edge([33, 2**32 + 1, MAX64, 34, 2**32, 256])
+    elif clause == "past the count":
         count = len(records)
-        records = records + [bytes(12)] * d.below(32 - len(records)) + [d.pick([b"\1" + bytes(11), bytes(11) + b"\1", bytes(1) + b"\1" + bytes(10), some_record(d)])]
-    elif clause == 4:
-        count, records = d.below(len(records)), [r if any(r) else b"\x60" + bytes(11) for r in records]
-    elif clause == 5:
+        gap = [bytes(12)] * d.below(32 - count)
+        records += [*gap, d.pick([b"\1" + bytes(11), b"\0\1" + bytes(10), bytes(11) + b"\1", some_record(d)])]
+    elif clause == "fewer counted":
+        count = d.below(len(records))
+    elif clause == "key twice":
         records.insert(d.below(len(records)), d.pick(records)[:2] + d.bytes(10))
-    elif clause == 6:
+    elif clause == "tag FF":
         records[d.below(len(records))] = b"\xff" + d.bytes(11)
-    elif clause == 7:
-        next_seq = 0
-        seq = d.pick([0, seq])
-    elif clause == 8:
+    elif clause == "next_seq 0":
+        seq, next_seq = d.pick([0, seq]), 0
+    elif clause == "next_seq low":
         seq = d.pick([1, 7, MAX32 - 1])
-        next_seq = d.pick([seq, max(1, seq - 1), 1])
-    elif clause == 9:
-        seq = MAX32
-        next_seq = d.pick([MAX32, MAX32 - 1, 1])
-    elif clause == 10:
-        state = d.pick(["unformatted", "failed"])
-    elif clause == 11:
-        state, count = d.pick(["unformatted", "failed"]), 0
-    elif clause == 12:
-        state, records, count = d.pick(["unformatted", "failed"]), [], d.pick([0, 1, 32, 33])
-        next_seq = d.pick([0, 1, MAX32])
-    elif clause == 13:
+        next_seq = edge([seq, max(1, seq - 1), 1])
+    elif clause == "next_seq at the maximum":
+        seq, next_seq = edge([(MAX32, MAX32), (MAX32, MAX32 - 1), (MAX32 - 1, MAX32), (MAX32 - 1, MAX32 - 1)])
+    elif clause == "records while idle":
+        idle = d.pick(["unformatted", "failed"])
+    elif clause == "places while idle":
+        idle, count = d.pick(["unformatted", "failed"]), 0
+    elif clause == "idle":
+        idle, records = d.pick(["unformatted", "failed"]), []
+        count, next_seq = d.pick([0, 1, 32, 33]), d.pick([0, 1, MAX32])
+    elif clause == "more counted":
         records, count = [], d.pick([0, 1, 2])
     lines = [f"image {sectors * SECTOR}", d.pick([HEALTHY, some_plan(d)])]
-    lines += [log_line(state or f"active {sector} {seq} {head}", next_seq, records[:32], count)]
+    lines += [log_line(idle or f"active {sector} {seq} {head}", next_seq, records[:32], count)]
     for call in every_call(d):
         if call != "open":
             lines += ["save", call, "restore"]
@@ -587,7 +604,7 @@ def bad_logs(d, whole):
 
 def bad_images(d, whole):
     """Images of a wrong size, with good and bad logs and ids: the order of the refusals."""
-    size = d.pick(WRONG_SIZES)
+    size = d.turn(WRONG_SIZES)
     lines = [f"image {size}", d.pick([HEALTHY, some_plan(d)])]
     records = some_table(d, 2)
     lines += [d.pick([
@@ -644,7 +661,7 @@ def faults(d, whole):
 def cut_appends(d, whole):
     """The power cut at every byte of an append, at every sort of head, and the reopening."""
     sectors = d.pick([1, 2, 3])
-    head = d.pick([1, 2, 9, 100, 253, 254, 255])
+    head = d.turn([1, 2, 9, 100, 253, 254, 255])
     image = active_image(d, sectors, head)[0]
     if d.chance(15) and head < 255:
         image.put(d.below(sectors), head, d.bytes(16))
@@ -686,7 +703,7 @@ def cut_anchors(d, whole):
 
 def chance_matches(d, whole):
     """Seqs under which a slot cut after k bytes reads as a record, or a cut header as a header."""
-    k = d.among(1, 12)
+    k = d.turn(range(1, 13))
     if d.chance(70):
         cred, ident = d.pick(CREDENTIALS), d.pick(VALUES)
         allowance, total, at_reset = some_state(d)
@@ -734,13 +751,16 @@ BAD_LINES = [
     "log active 0 1 2 next 2 count 32 " + " ".join(["00" * 12] * 33), "#" + "x" * 16384, "get 1" + " " * 16380,
     "saved", "restored", "dumps", "lists", "é", "open é", "bad line 1",
 ]
-# Lines on which the words of the format are silent, as README.md decides them.
+# Scripts with a line on which the words of the format are silent, as README.md decides it.
+READY = ["image 4096", HEALTHY, "open"]
 CORNERS = [
-    ["save 1", "open"], ["restore 1", "open"], ["dump 1"], ["list 1"], ["image 4096 1", "open"], ["plan inf 0 0 0", "open"],
-    ["at 0 00 00", "open"], ["at 0", "open"], ["at 4096 00", "open"], ["at 4095 0000", "open"], ["at 18446744073709551615 00", "open"],
-    ["open  "], ["get 1  "], ["log active 0 1 2 next 2 count 2 " + "52" * 12 + "x" + "53" * 12, "anchor"],
-    ["plan inf 0 4294967296", "open"], ["log active 4294967296 1 2 next 2 count 0", "open"], ["log active 0 1 4294967296 next 2 count 0", "open"],
-    ["image 70000", "dump", "at 0 00", "dump", "list", "open"], ["image 70000", "at 1 00", "open"], ["image 0", "dump", "list"],
+    ["open"], ["restore", "open", "list", "dump"], ["put 1 3 0 0", "get 1", "needs_migration"], ["dump"],
+    [*READY, "save 1"], [*READY, "restore 1"], [*READY, "dump 1"], [*READY, "list 1"], [*READY, "image 4096 1"],
+    [*READY, "plan inf 0 0 0"], [*READY, "at 0 00 00"], [*READY, "at 0"], [*READY, "at 4096 00"], [*READY, "at 4095 0000"],
+    [*READY, f"at {MAX64} 00"], [*READY, "open  "], [*READY, "get 1  "],
+    [*READY, "log active 0 1 2 next 2 count 2 " + "52" * 12 + "x" + "53" * 12], [*READY, f"plan inf 0 {2**32}"],
+    [*READY, f"log active {2**32} 1 2 next 2 count 0"], [*READY, f"log active 0 1 {2**32} next 2 count 0"],
+    ["image 70000", "dump", "at 0 00", "dump", "list", "open"], ["image 70000", "at 1 00"], ["image 0", "dump", "list"],
 ]
 
 
@@ -749,15 +769,15 @@ def texts(d, whole):
     lines = []
     for _ in range(d.among(1, 4)):
         lines += [f"image {SECTOR * 2}", HEALTHY, "open", d.pick(ODD_LINES), d.pick(["open", some_call(d)])]
-    return [*lines, f"image {SECTOR * 2}", d.pick(BAD_LINES), "open"]
+    return [*lines, f"image {SECTOR * 2}", d.turn(BAD_LINES), "open"]
 
 
 def corners(d, whole):
     """Corners of the script format that are decided in README.md: the end of their script."""
-    return ["image 4096", HEALTHY, "open", *d.pick(CORNERS), "get 1", "x"]
+    return [*d.turn(CORNERS), "open", "x"]
 
 
-# Each kind, its share of the calls, and whether its script must end with it.
+# Each kind, its share of the calls, and whether it must be a script of its own.
 KINDS = {
     "session": (session, 12, False),
     "heads": (heads, 10, False),
