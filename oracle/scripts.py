@@ -496,7 +496,8 @@ def held_values(d, whole):
         held = counter(cred, allowance, total, at_reset, odd)
         up, down = min(total + 1, MAX32), max(total - 1, 0)
         calls = [f"put {cred} {a} {t} {r}" for a in (allowance, allowance ^ 1) for t in (down, total, up) for r in (at_reset, at_reset ^ 1)]
-        calls += [f"spend {cred} 7", f"set {cred} {allowance}", f"set {cred} 0", f"set {cred} {min(allowance, max(0, allowance - max(0, total - at_reset)))}"]
+        left = max(0, allowance - (total - at_reset)) if total >= at_reset else 0
+        calls += [f"spend {cred} 7", f"set {cred} {allowance}", f"set {cred} 0", f"set {cred} {left}"]
         calls += [f"get {cred}", f"remaining {cred}", f"load {cred} 0 9", f"load {cred} 1 9"]
     elif kind == 1:
         ident, n = d.pick(VALUES), some64(d)
@@ -544,7 +545,8 @@ def sequence_ends(d, whole):
         lines += [plan, sure_write(d), sure_write(d), HEALTHY, sure_write(d), "open", "restore"]
     lines += [f"image {sectors * SECTOR}"]
     for plan in [HEALTHY, "plan inf 1 0", "plan inf 0 1"]:
-        lines += [plan, f"log unformatted next {d.pick([MAX32 - 1, MAX32 - 2, MAX32])} count 0", d.pick([some_format(d), "format 1 1 3 0 0", "put_anchor 7 0 0"]), "open"]
+        call = d.pick([some_format(d), "format 1 1 3 0 0", "put_anchor 7 0 0"])
+        lines += [plan, f"log unformatted next {d.pick([MAX32 - 1, MAX32 - 2, MAX32])} count 0", call, "open"]
     return lines
 
 
@@ -621,7 +623,12 @@ def bad_images(d, whole):
 def bad_ids(d, whole):
     """Unknown credentials and value ids in every call, on logs of every state."""
     records = some_table(d, d.below(3))
-    state = d.pick([log_line("active 0 1 9", 2, records), log_line("active 0 1 257", 2, records), "log unformatted next 1 count 0", "log failed next 1 count 0"])
+    state = d.turn([
+        log_line("active 0 1 9", 2, records),
+        log_line("active 0 1 257", 2, records),
+        "log unformatted next 1 count 0",
+        "log failed next 1 count 0",
+    ])
     lines = [f"image {SECTOR * 2}", d.pick([HEALTHY, some_plan(d)]), state]
     cred, ident = d.pick([*NOT_CREDENTIALS, d.below(256)]), d.pick([*NOT_VALUES, d.below(256)])
     calls = [f"put {cred} 3 1 0", f"get {cred}", f"remaining {cred}", f"load {cred} {d.below(2)} 4", f"spend {cred} 3", f"set {cred} 3"]
@@ -640,7 +647,8 @@ def formats(d, whole):
     for _ in range(5):
         state = d.pick(["unformatted"] * 6 + ["failed", f"active {d.below(sectors)} 3 4"])
         lines += [d.pick([HEALTHY, HEALTHY, some_plan(d)]), log_line(state, d.pick([1, 2, 4, 1000, MAX32 - 1, MAX32]), [])]
-        lines += ["save", some_format(d), "open", "restore", d.pick([some_format(d), some_anchor(d), "format 7 1 3 0 0 2 3 0 0 3 3 0 0 17 3 0 0 18 3 0 0 33 3 0 0 34 3 0 0"])]
+        full = "format 7 " + " ".join(f"{c} 3 0 0" for c in CREDENTIALS)
+        lines += ["save", some_format(d), "open", "restore", d.pick([some_format(d), some_anchor(d), full])]
         lines += [some_write(d), some_call(d)]
     return [*lines, "open"]
 

@@ -1,4 +1,3 @@
-
 // ---- What oracle/build appends to the text of retry_counter.rs: the trait that it takes from its
 // crate, and a module that stands below it and so reaches its private parts. It holds the flash and
 // fault plan of document 01, and the way of a log value into the Rust's own log and out of it.
@@ -104,12 +103,19 @@ pub mod access {
     }
 
     /// A log value that passed the BadLog test, as the Rust's own log.
-    pub fn enter(flash: Flash, sectors: u32, state: State, next_seq: u32, places: &[Place]) -> RustLog {
+    pub fn enter(
+        flash: Flash,
+        sectors: u32,
+        state: State,
+        next_seq: u32,
+        places: &[Place],
+    ) -> RustLog {
         let mut raw = RawTable::new();
         for p in places {
             let mut slot = [0u8; SLOT_SIZE];
             slot[..12].copy_from_slice(p);
-            raw.push(Raw::from_slot(&slot)).expect("a good log has room for its records");
+            raw.push(Raw::from_slot(&slot))
+                .expect("a good log has room for its records");
         }
         let state = match state {
             State::Unformatted => LogState::Unformatted,

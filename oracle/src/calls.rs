@@ -52,9 +52,15 @@ impl Log {
         let records = self.counted();
         let over_the_limit = self.count > LIMIT as u64;
         let not_zeros_past_count = self.table[records.len()..].iter().any(|p| *p != [0; 12]);
-        let key_twice = (1..records.len()).any(|i| records[..i].iter().any(|p| p[..2] == records[i][..2]));
+        let key_twice =
+            (1..records.len()).any(|i| records[..i].iter().any(|p| p[..2] == records[i][..2]));
         let tag_ff = records.iter().any(|p| p[0] == 0xFF);
-        bad_state || over_the_limit || not_zeros_past_count || key_twice || tag_ff || self.next_seq == 0
+        bad_state
+            || over_the_limit
+            || not_zeros_past_count
+            || key_twice
+            || tag_ff
+            || self.next_seq == 0
     }
 }
 
@@ -127,7 +133,13 @@ impl Call {
         use Call::*;
         matches!(
             self,
-            Open | Put(..) | PutValue(..) | PutAnchor(..) | Format(..) | Spend(..) | Set(..) | AdvanceLamport(..)
+            Open | Put(..)
+                | PutValue(..)
+                | PutAnchor(..)
+                | Format(..)
+                | Spend(..)
+                | Set(..)
+                | AdvanceLamport(..)
         )
     }
 
@@ -137,7 +149,9 @@ impl Call {
         match self {
             Open | Put(..) | PutValue(..) | PutAnchor(..) | Format(..) | Set(..) => Handed::Nothing,
             Get(..) | Value(..) | Anchor | Remaining(..) => Handed::None,
-            Lamport | NeedsMigration | Load(..) | Spend(..) | AdvanceLamport(..) => Handed::Numbers(vec![0]),
+            Lamport | NeedsMigration | Load(..) | Spend(..) | AdvanceLamport(..) => {
+                Handed::Numbers(vec![0])
+            }
         }
     }
 
@@ -145,9 +159,12 @@ impl Call {
     fn ids_are_known(&self) -> bool {
         use Call::*;
         match self {
-            Put(cred, _) | Get(cred) | Remaining(cred) | Load(cred, ..) | Spend(cred, _) | Set(cred, _) => {
-                Credential::from_id(*cred).is_some()
-            }
+            Put(cred, _)
+            | Get(cred)
+            | Remaining(cred)
+            | Load(cred, ..)
+            | Spend(cred, _)
+            | Set(cred, _) => Credential::from_id(*cred).is_some(),
             PutValue(id, _) | Value(id) => ValueId::from_id(*id).is_some(),
             Format(count, seeds) => known_seeds(*count, seeds).is_some(),
             Open | PutAnchor(..) | Anchor | Lamport | NeedsMigration | AdvanceLamport(..) => true,
@@ -242,7 +259,11 @@ impl Call {
                 Nothing
             }
             Call::Get(c) => log.get(cred(c))?.map_or(None, |s| {
-                Numbers(vec![s.allowance.into(), s.failures_total.into(), s.failures_at_reset.into()])
+                Numbers(vec![
+                    s.allowance.into(),
+                    s.failures_total.into(),
+                    s.failures_at_reset.into(),
+                ])
             }),
             Call::Value(id) => maybe(log.value(value(id))?),
             Call::Anchor => log.anchor()?.map_or(None, |a| {
@@ -250,14 +271,24 @@ impl Call {
             }),
             Call::Lamport => one(retry_counter::lamport(log).map_err(storage)?),
             Call::NeedsMigration => one(log.needs_migration().into()),
-            Call::Remaining(c) => maybe(retry_counter::remaining(log, cred(c)).map_err(storage)?.map(u64::from)),
-            Call::Load(c, exists, fresh) => one(retry_counter::load(log, cred(c), exists, fresh).into()),
-            Call::Spend(c, current) => one(retry_counter::spend(log, cred(c), current).map_err(storage)?.into()),
+            Call::Remaining(c) => maybe(
+                retry_counter::remaining(log, cred(c))
+                    .map_err(storage)?
+                    .map(u64::from),
+            ),
+            Call::Load(c, exists, fresh) => {
+                one(retry_counter::load(log, cred(c), exists, fresh).into())
+            }
+            Call::Spend(c, current) => one(retry_counter::spend(log, cred(c), current)
+                .map_err(storage)?
+                .into()),
             Call::Set(c, n) => {
                 retry_counter::set(log, cred(c), n).map_err(storage)?;
                 Nothing
             }
-            Call::AdvanceLamport(seen) => one(retry_counter::advance_lamport(log, seen).map_err(storage)?),
+            Call::AdvanceLamport(seen) => {
+                one(retry_counter::advance_lamport(log, seen).map_err(storage)?)
+            }
         })
     }
 }
@@ -265,7 +296,10 @@ impl Call {
 /// The seeds before the count, where there are at most eight of known credentials.
 fn known_seeds(count: u64, seeds: &[Seed; 8]) -> Option<Vec<(Credential, CounterState)>> {
     let counted = seeds.get(..usize::try_from(count).ok()?)?;
-    counted.iter().map(|(id, state)| Some((Credential::from_id(*id)?, *state))).collect()
+    counted
+        .iter()
+        .map(|(id, state)| Some((Credential::from_id(*id)?, *state)))
+        .collect()
 }
 
 fn taken_apart(log: RustLog) -> (Flash, Log) {

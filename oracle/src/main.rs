@@ -47,7 +47,9 @@ fn bytes(word: &[u8]) -> Option<Vec<u8>> {
     if word.is_empty() || word.len() % 2 == 1 {
         return None;
     }
-    word.chunks(2).map(|c| Some(nibble(c[0])? * 16 + nibble(c[1])?)).collect()
+    word.chunks(2)
+        .map(|c| Some(nibble(c[0])? * 16 + nibble(c[1])?))
+        .collect()
 }
 
 fn counter(allowance: &[u8], total: &[u8], at_reset: &[u8]) -> Option<CounterState> {
@@ -72,7 +74,9 @@ fn seeds(words: &[&[u8]]) -> Option<[Seed; 8]> {
 fn call(words: &[&[u8]]) -> Option<Call> {
     Some(match words {
         [b"open"] => Call::Open,
-        [b"put", cred, allowance, total, at_reset] => Call::Put(number(cred)?, counter(allowance, total, at_reset)?),
+        [b"put", cred, allowance, total, at_reset] => {
+            Call::Put(number(cred)?, counter(allowance, total, at_reset)?)
+        }
         [b"put_value", id, n] => Call::PutValue(number(id)?, number(n)?),
         [b"put_anchor", gen, seq, slot] => Call::PutAnchor(Anchor {
             format_gen: number(gen)?,
@@ -96,7 +100,11 @@ fn call(words: &[&[u8]]) -> Option<Call> {
 
 fn plan(units: &[u8], refuse_erases: &[u8], refuse_programs: &[u8]) -> Option<Plan> {
     Some(Plan {
-        units: if units == b"inf" { None } else { Some(number(units)?) },
+        units: if units == b"inf" {
+            None
+        } else {
+            Some(number(units)?)
+        },
         refuse_erases: flag(refuse_erases)?,
         refuse_programs: number(refuse_programs)?,
     })
@@ -140,7 +148,9 @@ fn put_state(out: &mut String, state: State) {
     match state {
         State::Unformatted => out.push_str("unformatted"),
         State::Failed => out.push_str("failed"),
-        State::Active { sector, seq, head } => out.push_str(&format!("active {sector} {seq} {head}")),
+        State::Active { sector, seq, head } => {
+            out.push_str(&format!("active {sector} {seq} {head}"))
+        }
     }
 }
 
@@ -148,7 +158,11 @@ fn put_state(out: &mut String, state: State) {
 fn put_log(out: &mut String, log: &Log) {
     put_state(out, log.state);
     out.push_str(&format!(" next {} count {}", log.next_seq, log.count));
-    let used = log.table.iter().rposition(|p| *p != [0; 12]).map_or(0, |i| i + 1);
+    let used = log
+        .table
+        .iter()
+        .rposition(|p| *p != [0; 12])
+        .map_or(0, |i| i + 1);
     for place in &log.table[..used.max(log.counted().len())] {
         out.push(' ');
         put_hex(out, place);
@@ -184,8 +198,15 @@ fn put_reply(out: &mut String, reply: &Reply, board: &Board, before: &[u8]) {
     };
     let plan = board.plan;
     let units = plan.units.map_or("inf".to_string(), |n| n.to_string());
-    out.push_str(&format!("{} {value}|{} {}|", reply.answer, reply.programmed, reply.erased));
-    out.push_str(&format!("{units} {} {}|", u8::from(plan.refuse_erases), plan.refuse_programs));
+    out.push_str(&format!(
+        "{} {value}|{} {}|",
+        reply.answer, reply.programmed, reply.erased
+    ));
+    out.push_str(&format!(
+        "{units} {} {}|",
+        u8::from(plan.refuse_erases),
+        plan.refuse_programs
+    ));
     put_log(out, &board.log);
     out.push('|');
     put_changes(out, before, &board.image);
@@ -226,7 +247,10 @@ fn step(line: &[u8], board: &mut Board, kept: &mut Board, out: &mut String) -> O
         [b"at", offset, hex] => {
             let at: usize = number(offset)?;
             let new = bytes(hex)?;
-            board.image.get_mut(at..at.checked_add(new.len())?)?.copy_from_slice(&new);
+            board
+                .image
+                .get_mut(at..at.checked_add(new.len())?)?
+                .copy_from_slice(&new);
         }
         [b"plan", units, refuse_erases, refuse_programs] => {
             board.plan = plan(units, refuse_erases, refuse_programs)?;
