@@ -1,0 +1,2 @@
+-- Laws of the calls' decisions.
+pub mod Deciding
