@@ -1,0 +1,2 @@
+-- Laws of the decisions.
+pub mod Deciding
