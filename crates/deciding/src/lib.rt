@@ -4,9 +4,8 @@ use codec::OptRaw;
 use codec::Raw;
 use ids::Anchor;
 use ids::CounterState;
-use records::State;
 ghost use mathlib.Core.Path.{_≡_};
-ghost use Rattle.deciding.specs.Decisions.{refuse, give, write, whenActive, sameCounter, sameAnchor, putDecision, valueDecision, anchorWrite, anchorDecision};
+ghost use Rattle.deciding.specs.Decisions.{refuse, give, write, sameCounter, sameAnchor, putDecision, valueDecision, anchorWrite, anchorDecision};
 
 // What a call has decided: an answer and a value, and where `write` is set, the record to append first.
 pub struct Decision {
@@ -52,21 +51,6 @@ pub fn writes(room: bool, rec: Raw, value: u64) -> Decision
         write: true,
         value: value,
         rec: rec,
-    }
-}
-
-// A log that isn't Active refuses before anything else is decided.
-pub fn when_active(state: State, decision: Decision) -> Decision
-    ensures { λ r. ⌜ r ≡ whenActive state decision ⌝ }
-{
-    match state {
-        State::Unformatted => refuses(Answer::NotFormatted),
-        State::Failed => refuses(Answer::ReadError),
-        State::Active {
-            sector: _,
-            seq: _,
-            head: _,
-        } => decision,
     }
 }
 

@@ -1,12 +1,12 @@
 -- What a call finds as it begins, by its tests; and what a call that only reads makes of it.
 use mathlib.Core.Path.{_≡_, refl, sym, ap, ap₂, _∙_}
-use mathlib.Core.Bool.{Bool, true, false, _||_}
+use mathlib.Core.Bool.{Bool, true, false, _||_, false≢true}
 use mathlib.Core.List.{List}
 use Prim.Native.Nat.{ℕ, _≤_, _<_}
 use native.Mathlib.Omega.{arith}
 use lib.Dec.{eqb, ltb}
 use lib.ListN.{length, getD, List·getD-eq-default}
-use borrow.Author.Tests.{eq-eqb, ne-eqb, lt-ltb, le-ltb, ltb-true, ltb-false}
+use borrow.Author.Tests.{eq-eqb, ne-eqb, eqb-false, lt-ltb, ltb-true, ltb-false}
 use Rattle.basics.specs.Choice.{pick}
 use Rattle.basics.specs.Answers.{isDone}
 use Rattle.basics.specs.declared.Answer.{Answer}
@@ -69,11 +69,21 @@ module _ (tag id : ℕ) (t : List Raw) where
           let same : placeOf tag id t ≡ length t = omega arith in
           ap (λ (k : ℕ). ltb k limit) same
 
--- ---- reading, by what the entry says
-module _ {A : Type 0} (by : State → OptRaw → A) (refused : Answer → A) (log : Log) (known : Bool) (tag id : ℕ) (e : Entry) (is-entry : e ≡ entryOf 16 log known tag id) where
-  answer-is : entryOf 16 log known tag id .answer ≡ entryAnswer 16 log known
+-- ---- what an entry says of the tests
+pub let-in-by : (n : ℕ) (log : Log) (known : Bool) → isDone (entryAnswer n log known) ≡ true → (n ≡ 0 → ⊥) × (logFits n log ≡ true) × (known ≡ true)
+unfolding entryAnswer
+let-in-by n log known = go (eqb n 0) refl (logFits n log) known
+  where
+    go : (z : Bool) → eqb n 0 ≡ z → (f k : Bool) → isDone (pick z BadImage (pick f (pick k Done BadId) BadLog)) ≡ true → (n ≡ 0 → ⊥) × (f ≡ true) × (k ≡ true)
+    go true e f k d = absurd (false≢true d)
+    go false e true true d = (eqb-false n 0 e, refl, refl)
+    go false e true false d = absurd (false≢true d)
+    go false e false k d = absurd (false≢true d)
+
+module _ (n : ℕ) (log : Log) (known : Bool) (tag id : ℕ) (e : Entry) (is-entry : e ≡ entryOf n log known tag id) where
+  pub entry-answer : e .answer ≡ entryAnswer n log known
   unfolding entryOf
-  answer-is = go (entryAnswer 16 log known)
+  entry-answer = ap (λ (x : Entry). x .answer) is-entry ∙ go (entryAnswer n log known)
     where
       go : (a : Answer) → (pick (isDone a) (foundEntry tag id (recordsOf log)) (refusedEntry a)) .answer ≡ a
       go Done = refl
@@ -87,23 +97,25 @@ module _ {A : Type 0} (by : State → OptRaw → A) (refused : Answer → A) (lo
       go KeystoreFull = refl
       go IntegrityFailure = refl
 
-  same-answer : e .answer ≡ entryAnswer 16 log known
-  same-answer = ap (λ (x : Entry). x .answer) is-entry ∙ answer-is
+  module _ (d : isDone (e .answer) ≡ true) where
+    pub entry-in : isDone (entryAnswer n log known) ≡ true
+    entry-in = ap isDone (sym entry-answer) ∙ d
+
+    pub entry-found : e ≡ foundEntry tag id (recordsOf log)
+    unfolding entryOf
+    entry-found = is-entry ∙ ap (λ (b : Bool). pick b (foundEntry tag id (recordsOf log)) (refusedEntry (entryAnswer n log known))) entry-in
+
+-- ---- reading, by what the entry says
+module _ {A : Type 0} (by : State → OptRaw → A) (refused : Answer → A) (log : Log) (known : Bool) (tag id : ℕ) (e : Entry) (is-entry : e ≡ entryOf 16 log known tag id) where
+  abbrev by-answer : Bool → A
+  by-answer b = pick b (by (log .state) (heldOf tag id (recordsOf log))) (refused (entryAnswer 16 log known))
 
   pub read-refused : isDone (e .answer) ≡ false → refused (e .answer) ≡ readBy by refused log known tag id
   read-refused d =
-      ap refused same-answer
-      ∙ sym (ap (λ (b : Bool). pick b (by (log .state) (heldOf tag id (recordsOf log))) (refused (entryAnswer 16 log known))) (ap isDone (sym same-answer) ∙ d))
+      let same = entry-answer 16 log known tag id e is-entry in
+      ap refused same ∙ sym (ap by-answer (ap isDone (sym same) ∙ d))
 
-  module _ (d : isDone (e .answer) ≡ true) where
-    done : isDone (entryAnswer 16 log known) ≡ true
-    done = ap isDone (sym same-answer) ∙ d
-
-    found : e ≡ foundEntry tag id (recordsOf log)
-    unfolding entryOf
-    found = is-entry ∙ ap (λ (b : Bool). pick b (foundEntry tag id (recordsOf log)) (refusedEntry (entryAnswer 16 log known))) done
-
-    pub read-by : by (log .state) (e .held) ≡ readBy by refused log known tag id
-    read-by =
-        ap (λ (x : Entry). by (log .state) (x .held)) found
-        ∙ sym (ap (λ (b : Bool). pick b (by (log .state) (heldOf tag id (recordsOf log))) (refused (entryAnswer 16 log known))) done)
+  pub read-by : isDone (e .answer) ≡ true → by (log .state) (e .held) ≡ readBy by refused log known tag id
+  read-by d =
+      ap (λ (x : Entry). by (log .state) (x .held)) (entry-found 16 log known tag id e is-entry d)
+      ∙ sym (ap by-answer (entry-in 16 log known tag id e is-entry d))

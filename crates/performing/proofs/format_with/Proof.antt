@@ -1,26 +1,47 @@
+-- `performing::format_with` meets its contract.
+use mathlib.Core.Path.{_≡_, sym, ap, _∙_}
+use mathlib.Core.List.{[]}
+use lib.ListN.{length, take}
+use Rattle.codec.specs.declared.Raw.{Raw}
+use Rattle.records.specs.declared.Log.{Log}
+use Rattle.records.specs.Logs.{places}
+use Rattle.fitting.proofs.Owned.{whole-log}
+use Rattle.fitting.proofs.Laws.{fits-unformatted, records-length, log-is}
+use Rattle.writing.specs.Commits.{commitFirst}
+use Rattle.writing.specs.Shown.{flashWith}
+use Rattle.performing.proofs.Finishing.{finished}
 use borrow.Author.Needs.{needs}
 use Rattle.performing.proofs.format_with.Statement.{statement}
 use Rattle.performing.proofs.format_with.Tie as tie
-use Rattle.performing.proofs.format_with.Reads as reads
-use Rattle.performing.proofs.format_with.Lts as lts
-use Rattle.performing.proofs.finish.Reads as finish-reads
-use Rattle.writing.proofs.commit.Reads as commit-reads
 
--- src/lib.rt:195:9
 commit-requires : tie.Need-commit-requires
 commit-requires c κs = search needs
 
--- src/lib.rt:206:5
 finish-requires : tie.Need-finish-requires
 finish-requires c κs = search needs
 
--- src/lib.rt:183:1
 same-length : tie.Need-same-length
 same-length c = search needs
 
--- src/lib.rt:183:1
 returns : tie.Need-returns
-returns c = ?
+returns c = λ cut.
+    let p = c .before .before .before in
+    let s = p .before .before .before in
+    let a = s .args in
+    let t = take (a .count) (a .table) in
+    let fits = s .pre .0 .fits in
+    let whole = whole-log (a .log) (s .good .1 .0) in
+    let none = fits-unformatted (a .sectors) (a .log) fits (s .pre .1) in
+    let shown = p .commit .ensures cut in
+    record {
+      answered =
+        c .finish .ensures
+        ∙ finished (commitFirst (a .sectors) t (a .log .state) (a .log .«next_seq») (flashWith (a .image .now) (a .used) cut)) (p .commit .result) 0 (a .log) t [] (a .table) (a .count)
+        (shown .shown) (s .pre .3 .behind) (sym (s .pre .3 .counted))
+        (ap (λ (l : Log). l .table) (log-is (a .log) whole (a .sectors) fits) ∙ ap places none)
+        (sym (records-length (a .log) whole (a .sectors) fits) ∙ ap length none);
+      left = shown .left;
+    }
 
 pub format-with-spec : {M : Type 1} → statement M
 format-with-spec = tie.close (tie.spec commit-requires finish-requires same-length returns)
