@@ -23,7 +23,7 @@ ghost use Rattle.performing.specs.Outcomes.{Meets};
 ghost use Rattle.performing.specs.Performing.{formatted};
 ghost use Rattle.performing.specs.Steps.{Shows, Room};
 ghost use Rattle.log.specs.Calls.{putOf, putValueOf, isFirst, anchoredFirst, putAnchorOf, seedsKnown, formatOf};
-ghost use Rattle.log.specs.Steps.{seededOf};
+ghost use Rattle.log.specs.Steps.{opensLog, seededOf};
 
 // The most seeds that a format takes.
 const SEEDS: usize = 8;
@@ -66,13 +66,27 @@ pub fn put_value(image: &mut [u8], log: Log, plan: Plan, id: u8, new: u64) -> Do
     performing::perform(image, log, performing::unused(plan), n, e, d)
 }
 
-fn is_first(new: Anchor) -> bool
-    ensures { λ r. ⌜ r ≡ isFirst new ⌝ }
+// Whether a call that was let in brings the first anchor of a log that was never formatted.
+fn is_first(answer: Answer, state: State, new: Anchor) -> bool
+    ensures { λ r. ⌜ r ≡ opensLog answer state new ⌝ }
 {
-    if new.head_seq != 0 {
-        return false;
+    match state {
+        State::Unformatted => {
+            if !basics::is_done(answer) {
+                return false;
+            }
+            if new.head_seq != 0 {
+                return false;
+            }
+            new.head_slot == 0
+        }
+        State::Failed => false,
+        State::Active {
+            sector: _,
+            seq: _,
+            head: _,
+        } => false,
     }
-    new.head_slot == 0
 }
 
 // The first anchor formats the log empty, and is then its first record.
@@ -122,13 +136,8 @@ pub fn put_anchor(image: &mut [u8], log: Log, plan: Plan, new: Anchor) -> Done
     let answer = e.answer;
     let state = log.state;
     let used = performing::unused(plan);
-    if basics::is_done(answer) {
-        if is_first(new) {
-            match state {
-                State::Unformatted => return first_anchor(image, log, used, n, new),
-                _ => {}
-            }
-        }
+    if is_first(answer, state, new) {
+        return first_anchor(image, log, used, n, new);
     }
     let held = e.held;
     let d = deciding::anchor_decision(held, e.room, new);

@@ -1,5 +1,5 @@
 -- A call in three steps, as the code takes them: what it found, what it decided on that, and what comes of it.
-use mathlib.Core.Path.{_≡_, refl, sym, ap, ap₂, _∙_}
+use mathlib.Core.Path.{_≡_, refl, sym, ap, ap₂, subst, _∙_}
 use mathlib.Core.Bool.{Bool, true, false}
 use mathlib.Core.List.{List}
 use Prim.Native.Nat.{ℕ, _≤_, _<_}
@@ -19,15 +19,17 @@ use Rattle.fitting.specs.Fitting.{logFits}
 use Rattle.fitting.proofs.Owned.{WholeLog}
 use Rattle.fitting.proofs.Laws.{fits-clauses, records-length}
 use Rattle.writing.specs.declared.Used.{Used}
+use Rattle.writing.specs.Shown.{flashWith}
 use Rattle.deciding.specs.declared.Decision.{Decision}
 use Rattle.deciding.specs.Decisions.{whenActive}
 use Rattle.deciding.proofs.Keyed.{Keyed}
 use Rattle.reading.specs.declared.Entry.{Entry}
 use Rattle.reading.specs.Entering.{entryAnswer, roomFor, entryOf}
 use Rattle.reading.proofs.Entering.{let-in-by, entry-answer, entry-in, entry-found, room-at}
-use Rattle.performing.specs.Outcomes.{Outcome, flashOf, refused, entered}
+use Rattle.performing.specs.declared.Done.{Done}
+use Rattle.performing.specs.Outcomes.{Outcome, Meets, flashOf, refused, entered}
 use Rattle.performing.specs.Performing.{performed, decided}
-use Rattle.performing.specs.Steps.{Room, Placed, Ready, performedOn}
+use Rattle.performing.specs.Steps.{Shows, Room, Placed, Ready, performedOn}
 
 module _ (image : List ℕ) (log : Log) (plan : Plan) (known : Bool) (tag id : ℕ) (e : Entry) (is-entry : e ≡ entryOf (sectorsIn (length image)) log known tag id) where
   abbrev n : ℕ
@@ -77,3 +79,14 @@ module _ (image : List ℕ) (log : Log) (plan : Plan) (known : Bool) (tag id : �
             place = place ∙ ap₂ (λ (x y : ℕ). placeOf x y t) (sym (k .tagged w)) (sym (k .named w));
             free = omega (arith, place, free);
           }
+
+  -- ---- the same, with what the code's steps handed back
+  module _ (decision : OptRaw → Bool → Decision) (m : ℕ) (used : Used) (d : Decision) (counted : m ≡ n) (fresh : used ≡ record { plan = plan; programmed = 0; erased = 0 }) (is-decision : d ≡ decision (e .held) (e .room)) where
+    pub call-ready : WholeLog log → Keyed tag id (e .room) (decision (e .held) (e .room)) → Ready (length image) m log used e d
+    call-ready whole k = rw (counted, fresh, is-decision) (ready whole (decision (e .held) (e .room)) k)
+
+    pub call-meets : (r : Done) (left : List ℕ) → Shows (λ (cut : Bool). performedOn e d m log (flashWith image used cut)) r left → Meets (entered image log plan known (decided tag id decision)) r left
+    call-meets r left shown =
+        let same : performedOn e d m log (flashWith image used false) ≡ entered image log plan known (decided tag id decision) =
+            (λ i. performedOn e (is-decision i) (counted i) log (flashWith image (fresh i) false)) ∙ sym (called decision) in
+        subst (λ (o : Outcome). Meets o r left) same (shown false)
