@@ -7,16 +7,16 @@ use native.Mathlib.Omega.{arith}
 use lib.ListN.{length, set, take}
 use Rattle.codec.specs.declared.Raw.{Raw}
 use Rattle.records.specs.declared.Log.{Log}
-use Rattle.records.specs.Table.{limit, placeOf, joined}
+use Rattle.records.specs.Table.{limit, placeOf, joined, newCount}
 use Rattle.records.specs.Logs.{places, recordsOf}
 use Rattle.records.proofs.Places.{places-take}
+use Rattle.records.proofs.Storing.{stored, new-most}
 use Rattle.fitting.proofs.Owned.{whole-log}
 use Rattle.fitting.proofs.Laws.{fits-clauses, fits-active, records-length, log-is}
 use Rattle.writing.specs.Commits.{Wrote}
 use Rattle.writing.specs.Appends.{appendOf}
 use Rattle.writing.specs.Shown.{flashWith, Writing}
-use Rattle.performing.specs.Steps.{newCount}
-use Rattle.performing.proofs.Finishing.{stored, new-most, finished}
+use Rattle.performing.proofs.Finishing.{finished}
 use borrow.Author.Needs.{needs}
 use Rattle.performing.proofs.write_record.Statement.{statement}
 use Rattle.performing.proofs.write_record.Tie as tie
