@@ -1,0 +1,13 @@
+-- Laws of hex digits: a figure up to nine, a letter from ten on.
+use mathlib.Core.Path.{_≡_}
+use Prim.Native.Nat.{ℕ, _+_, _≤_, _<_}
+use borrow.Author.Tests.{lt-ltb, le-ltb}
+use Rattle.text.specs.Text.{hexDigit}
+
+pub digit-low : (x : ℕ) → x < 10 → hexDigit x ≡ 48 + x
+unfolding hexDigit
+digit-low x h = rw (lt-ltb x 10 h)
+
+pub digit-high : (x : ℕ) → 10 ≤ x → hexDigit x ≡ 87 + x
+unfolding hexDigit
+digit-high x h = rw (le-ltb x 10 h)
