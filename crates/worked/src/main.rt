@@ -46,23 +46,23 @@ fn anchor(format_gen: u16, head_seq: u64, head_slot: u16) -> Anchor {
 }
 
 fn starred() {
-    slot_line(b"header 1: ", codec::encode_header(1));
+    slot_line(b"header 1: ", headers::encode_header(1));
     io::write_all(1, b"crc of 123456789: ");
     io::print_hex(1, crc::crc32(b"123456789") as u64, 8);
     io::write_all(1, b"\n");
     let pin = counter(3, 5, 4);
     slot_line(
         b"user pin 3, 5, 4: ",
-        bodies::counter_record(1, pin).encode(1),
+        slots::encode(bodies::counter_record(1, pin), 1),
     );
     number_line(b"remaining: ", pin.remaining());
     slot_line(
         b"lamport 258: ",
-        bodies::value_record(ids::LAMPORT, 258).encode(1),
+        slots::encode(bodies::value_record(ids::LAMPORT, 258), 1),
     );
     let fits = bodies::anchor_record(anchor(7, 281_474_976_710_655, 9));
     let raw = fits.raw;
-    slot_line(b"anchor 7, 2^48 - 1, 9: ", raw.encode(1));
+    slot_line(b"anchor 7, 2^48 - 1, 9: ", slots::encode(raw, 1));
     let above = bodies::anchor_record(anchor(7, 281_474_976_710_656, 9));
     let answer = above.answer;
     number_line(b"anchor 7, 2^48, 9: ", basics::number(answer));

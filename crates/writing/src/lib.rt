@@ -91,12 +91,12 @@ fn write_records(
     requires { ⌜ (count ≤ 32) × (sector * 4096 + 4096 ≤ length (now image)) × (used .programmed ≤ 20000) ⌝ }
     ensures { λ r. ⌜ Steps (λ (cut : Bool). writeRecords sector seq 1 (take count table) (flashWith (now (image .entry)) used cut)) r (now (image .exit)) ⌝ }
 {
-    let start = codec::under(seq);
+    let start = sealing::under(seq);
     let mut u = used;
     let mut i: usize = 0;
     while i < count {
         let r = table[i];
-        let s = program(image, sector, i + 1, r.encode_from(start), u);
+        let s = program(image, sector, i + 1, slots::encode_from(r, start), u);
         let answer = s.answer;
         if !basics::is_done(answer) {
             return s;
@@ -132,7 +132,7 @@ fn write_sector(
     if !basics::is_done(written) {
         return w;
     }
-    program(image, sector, 0, codec::encode_header(seq), w.used)
+    program(image, sector, 0, headers::encode_header(seq), w.used)
 }
 
 // The sector after s, round from the last to 0.
@@ -261,7 +261,7 @@ pub fn append(
     requires { ⌜ (count ≤ 32) × (sectors ≤ 16) × (sectors * 4096 ≤ length (now image)) × (sector < sectors) × (head ≤ 256) × (used .programmed ≤ 256) × (used .erased ≤ 65536) ⌝ }
     ensures { λ r. ⌜ Writes (λ (cut : Bool). appendOf sectors sector seq head «next_seq» «record» (take count table) (flashWith (now (image .entry)) used cut)) r (now (image .exit)) ⌝ }
 {
-    let w = try_slots(image, sector, head, record.encode(seq), used);
+    let w = try_slots(image, sector, head, slots::encode(record, seq), used);
     let here = State::Active {
         sector: sector as u32,
         seq: seq,
