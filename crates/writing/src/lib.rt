@@ -48,9 +48,9 @@ fn program(image: &mut [u8], sector: usize, slot: usize, bytes: [u8; 16], used: 
     ensures { λ r. ⌜ Steps (λ (cut : Bool). run.program sector slot bytes (flashWith (now (image .entry)) used cut)) r (now (image .exit)) ⌝ }
 {
     let plan = used.plan;
-    let n = flash::to_program(plan);
-    let answer = flash::program_slot(image, sector, slot, bytes, n);
-    let left = flash::after_program(plan);
+    let n = power::to_program(plan);
+    let answer = programming::program_slot(image, sector, slot, bytes, n);
+    let left = power::after_program(plan);
     Step {
         answer: answer,
         used: Used {
@@ -66,9 +66,9 @@ fn erase(image: &mut [u8], sector: usize, used: Used) -> Step
     ensures { λ r. ⌜ Steps (λ (cut : Bool). run.erase sector (flashWith (now (image .entry)) used cut)) r (now (image .exit)) ⌝ }
 {
     let plan = used.plan;
-    let n = flash::to_erase(plan);
-    let answer = flash::erase_sector(image, sector, n);
-    let left = flash::after_erase(plan);
+    let n = power::to_erase(plan);
+    let answer = erasing::erase_sector(image, sector, n);
+    let left = power::after_erase(plan);
     Step {
         answer: answer,
         used: Used {

@@ -1,9 +1,9 @@
--- `flash::charge` meets its contract.
+-- `power::charge` meets its contract.
 use native.Mathlib.Nat.{sub-self}
 use borrow.Author.Needs.{needs}
 use Rattle.flash.proofs.Charging.{powered-short, powered-enough}
-use Rattle.flash.proofs.charge.Statement.{statement}
-use Rattle.flash.proofs.charge.Tie as tie
+use Rattle.power.proofs.charge.Statement.{statement}
+use Rattle.power.proofs.charge.Tie as tie
 
 sub-p : tie.Need-sub-p
 sub-p c = search needs

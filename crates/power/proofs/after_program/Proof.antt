@@ -1,9 +1,9 @@
--- `flash::after_program` meets its contract.
+-- `power::after_program` meets its contract.
 use native.Mathlib.Omega.{arith}
 use borrow.Author.Needs.{needs}
 use borrow.Author.Tests.{lt-ltb, le-ltb}
-use Rattle.flash.proofs.after_program.Statement.{statement}
-use Rattle.flash.proofs.after_program.Tie as tie
+use Rattle.power.proofs.after_program.Statement.{statement}
+use Rattle.power.proofs.after_program.Tie as tie
 
 sub-p : tie.Need-sub-p
 sub-p c = search needs

@@ -1,12 +1,12 @@
--- `flash::program` meets its contract. The loop's invariant: the first i bytes have landed, and no other.
+-- `programming::program` meets its contract. The loop's invariant: the first i bytes have landed, and no other.
 use mathlib.Core.Path.{_≡_, sym, ap, _∙_}
 use Prim.Native.Nat.{ℕ, _-_, _≤_}
 use native.Mathlib.Omega.{arith}
 use lib.ListN.{length}
 use Rattle.flash.specs.Run.{landed}
 use Rattle.flash.proofs.Landing.{landed-length, landed-none, landed-step}
-use Rattle.flash.proofs.program.Statement.{statement}
-use Rattle.flash.proofs.program.Tie as tie
+use Rattle.programming.proofs.program.Statement.{statement}
+use Rattle.programming.proofs.program.Tie as tie
 
 abbrev Inv-loop : tie.InvT-loop
 Inv-loop slot₀ n bytes i₀ slot i = (i ≤ n) × (slot ≡ landed i bytes slot₀)

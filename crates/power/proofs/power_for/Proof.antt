@@ -1,9 +1,9 @@
--- `flash::power_for` meets its contract.
+-- `power::power_for` meets its contract.
 use mathlib.Core.Path.{sym}
 use borrow.Author.Needs.{needs}
 use Rattle.flash.proofs.Charging.{powered-short, powered-enough}
-use Rattle.flash.proofs.power_for.Statement.{statement}
-use Rattle.flash.proofs.power_for.Tie as tie
+use Rattle.power.proofs.power_for.Statement.{statement}
+use Rattle.power.proofs.power_for.Tie as tie
 
 returns : tie.Need-returns
 returns c = let args = c .before .before .args in sym (powered-short (args .plan) (args .want) (c .before .if1 .taken, c .if2 .taken))

@@ -1,11 +1,11 @@
--- `flash::after_erase` meets its contract.
+-- `power::after_erase` meets its contract.
 use mathlib.Core.Path.{sym, ap, _∙_}
 use mathlib.Core.Bool.{Bool}
 use borrow.Author.Needs.{needs}
 use Rattle.basics.specs.Choice.{pick}
 use Rattle.flash.specs.Power.{powered, charged}
-use Rattle.flash.proofs.after_erase.Statement.{statement}
-use Rattle.flash.proofs.after_erase.Tie as tie
+use Rattle.power.proofs.after_erase.Statement.{statement}
+use Rattle.power.proofs.after_erase.Tie as tie
 
 returns : tie.Need-returns
 returns c = let plan = c .before .args .plan in ap (λ (t : Bool). pick t plan (charged plan (powered plan 4096))) (sym (c .if1 .taken))

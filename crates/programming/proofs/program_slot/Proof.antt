@@ -1,4 +1,4 @@
--- `flash::program_slot` meets its contract: the lent slot comes back with n bytes landed, and is read again in its place.
+-- `programming::program_slot` meets its contract: the lent slot comes back with n bytes landed, and is read again in its place.
 use mathlib.Core.Path.{_≡_, ap, _∙_}
 use mathlib.Core.List.{List}
 use Prim.Native.Nat.{ℕ, _+_, _-_, _≤_}
@@ -7,12 +7,12 @@ use lib.ListN.{length}
 use borrow.Author.Needs.{needs}
 use borrow.Author.Tests.{lt-ltb, le-ltb}
 use Rattle.basics.specs.Lists.{same, splice}
 use Rattle.flash.specs.Image.{addr, slotAt, withSlot}
 use Rattle.flash.specs.Run.{landed}
 use Rattle.flash.proofs.Landing.{landed-length}
 use Rattle.flash.proofs.Lent.{lent-whole, lent-again}
-use Rattle.flash.proofs.program_slot.Statement.{statement}
-use Rattle.flash.proofs.program_slot.Tie as tie
+use Rattle.programming.proofs.program_slot.Statement.{statement}
+use Rattle.programming.proofs.program_slot.Tie as tie
 
 abbrev start : tie.After-program → tie.Start
 start c = c .before .before .before

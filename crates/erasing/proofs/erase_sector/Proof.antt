@@ -1,4 +1,4 @@
--- `flash::erase_sector` meets its contract: the lent sector comes back blanked, and is read again in its place.
+-- `erasing::erase_sector` meets its contract: the lent sector comes back blanked, and is read again in its place.
 use mathlib.Core.Path.{_≡_, ap, _∙_}
 use mathlib.Core.List.{List}
 use Prim.Native.Nat.{ℕ, _+_, _-_, _*_}
@@ -7,12 +7,12 @@ use lib.ListN.{length}
 use borrow.Author.Needs.{needs}
 use borrow.Author.Tests.{lt-ltb, le-ltb}
 use Rattle.basics.specs.Lists.{allAre, splice}
 use Rattle.flash.specs.Image.{sectorAt, withSector}
 use Rattle.flash.specs.Run.{blanked}
 use Rattle.flash.proofs.Landing.{blanked-length}
 use Rattle.flash.proofs.Lent.{lent-whole, lent-again}
-use Rattle.flash.proofs.erase_sector.Statement.{statement}
-use Rattle.flash.proofs.erase_sector.Tie as tie
+use Rattle.erasing.proofs.erase_sector.Statement.{statement}
+use Rattle.erasing.proofs.erase_sector.Tie as tie
 
 abbrev start : tie.After-blank → tie.Start
 start c = c .before .before .before

@@ -1,4 +1,4 @@
--- `flash::reads_back` meets its contract. The loop's invariant: nothing differed yet, and what is left is the same, just where the whole is.
+-- `programming::reads_back` meets its contract. The loop's invariant: nothing differed yet, and what is left is the same, just where the whole is.
 use mathlib.Core.Path.{_≡_, refl, sym, ap, _∙_}
 use mathlib.Core.Bool.{Bool, _&&_, and-true, and-assoc}
 use Prim.Native.Nat.{_+_, _-_, _≤_}
@@ -6,9 +6,9 @@ use native.Mathlib.Omega.{arith}
 use lib.Dec.{eqb}
 use lib.ListN.{length, drop, getD}
 use Rattle.basics.specs.Lists.{same}
-use Rattle.flash.proofs.Comparing.{differ-none, same-step, same-end}
-use Rattle.flash.proofs.reads_back.Statement.{statement}
-use Rattle.flash.proofs.reads_back.Tie as tie
+use Rattle.programming.proofs.Comparing.{differ-none, same-step, same-end}
+use Rattle.programming.proofs.reads_back.Statement.{statement}
+use Rattle.programming.proofs.reads_back.Tie as tie
 
 abbrev Inv-loop : tie.InvT-loop
 Inv-loop slot bytes differ₀ i₀ differ i = (i ≤ 16) × (eqb differ 0 && same (drop i slot) (drop i bytes) ≡ same slot bytes)

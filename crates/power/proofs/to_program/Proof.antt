@@ -1,9 +1,9 @@
--- `flash::to_program` meets its contract.
+-- `power::to_program` meets its contract.
 use native.Mathlib.Omega.{arith}
 use borrow.Author.Needs.{needs}
 use borrow.Author.Tests.{lt-ltb, le-ltb}
-use Rattle.flash.proofs.to_program.Statement.{statement}
-use Rattle.flash.proofs.to_program.Tie as tie
+use Rattle.power.proofs.to_program.Statement.{statement}
+use Rattle.power.proofs.to_program.Tie as tie
 
 returns : tie.Need-returns
 returns c = rw (lt-ltb 0 (c .before .before .args .plan .«refuse_programs») (omega arith))

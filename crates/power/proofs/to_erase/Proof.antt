@@ -1,11 +1,11 @@
--- `flash::to_erase` meets its contract.
+-- `power::to_erase` meets its contract.
 use mathlib.Core.Path.{sym, ap, _∙_}
 use mathlib.Core.Bool.{Bool}
 use borrow.Author.Needs.{needs}
 use Rattle.basics.specs.Choice.{pick}
 use Rattle.flash.specs.Power.{powered}
-use Rattle.flash.proofs.to_erase.Statement.{statement}
-use Rattle.flash.proofs.to_erase.Tie as tie
+use Rattle.power.proofs.to_erase.Statement.{statement}
+use Rattle.power.proofs.to_erase.Tie as tie
 
 returns : tie.Need-returns
 returns c = ap (λ (t : Bool). pick t 0 (powered (c .before .args .plan) 4096)) (sym (c .if1 .taken))

@@ -1,13 +1,13 @@
--- `flash::blank` meets its contract. The loop's invariant: the first i bytes are blanked, and no other.
+-- `erasing::blank` meets its contract. The loop's invariant: the first i bytes are blanked, and no other.
 use mathlib.Core.Path.{_≡_, refl, ap, _∙_}
 use Prim.Native.Nat.{ℕ, _-_, _≤_}
 use native.Mathlib.Omega.{arith}
 use lib.ListN.{length}
 use borrow.Author.Fill.{fill-more}
 use Rattle.flash.specs.Run.{blanked}
 use Rattle.flash.proofs.Landing.{blanked-length}
-use Rattle.flash.proofs.blank.Statement.{statement}
-use Rattle.flash.proofs.blank.Tie as tie
+use Rattle.erasing.proofs.blank.Statement.{statement}
+use Rattle.erasing.proofs.blank.Tie as tie
 
 abbrev Inv-loop : tie.InvT-loop
 Inv-loop part₀ n i₀ part i = (i ≤ n) × (part ≡ blanked i part₀)
