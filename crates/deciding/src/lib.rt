@@ -58,12 +58,12 @@ fn same_counter(a: CounterState, b: CounterState) -> bool
 pub fn put_decision(held: OptRaw, room: bool, credential: u8, new: CounterState) -> Decision
     ensures { λ r. ⌜ r ≡ putDecision held room credential new ⌝ }
 {
-    let written = writes(room, bodies::counter_record(credential, new), 0);
+    let written = writes(room, counters::counter_record(credential, new), 0);
     if !held.some {
         return written;
     }
     let raw = held.raw;
-    let old = bodies::counter_of(raw);
+    let old = counters::counter_of(raw);
     if new.total < old.total {
         return answers(Answer::IntegrityFailure, 0);
     }
@@ -76,12 +76,12 @@ pub fn put_decision(held: OptRaw, room: bool, credential: u8, new: CounterState)
 pub fn value_decision(held: OptRaw, room: bool, id: u8, new: u64) -> Decision
     ensures { λ r. ⌜ r ≡ valueDecision held room id new ⌝ }
 {
-    let written = writes(room, bodies::value_record(id, new), 0);
+    let written = writes(room, values::value_record(id, new), 0);
     if !held.some {
         return written;
     }
     let raw = held.raw;
-    let old = bodies::value_of(raw);
+    let old = values::value_of(raw);
     if new == old {
         return answers(Answer::Done, 0);
     }
@@ -109,7 +109,7 @@ fn same_anchor(a: Anchor, b: Anchor) -> bool
 fn anchor_write(room: bool, new: Anchor) -> Decision
     ensures { λ r. ⌜ r ≡ anchorWrite room new ⌝ }
 {
-    let made = bodies::anchor_record(new);
+    let made = anchors::anchor_record(new);
     let answer = made.answer;
     if !basics::is_done(answer) {
         return answers(answer, 0);
@@ -125,7 +125,7 @@ pub fn anchor_decision(held: OptRaw, room: bool, new: Anchor) -> Decision
         return written;
     }
     let raw = held.raw;
-    let old = bodies::anchor_of(raw);
+    let old = anchors::anchor_of(raw);
     if same_anchor(new, old) {
         return answers(Answer::Done, 0);
     }

@@ -115,7 +115,7 @@ pub fn get(log: Log, credential: u8) -> Counter
                 return Counter::Nothing;
             }
             let raw = held.raw;
-            Counter::Held(bodies::counter_of(raw))
+            Counter::Held(counters::counter_of(raw))
         }
     }
 }
@@ -142,7 +142,7 @@ pub fn value(log: Log, id: u8) -> Number
                 return Number::Nothing;
             }
             let raw = held.raw;
-            Number::Held(bodies::value_of(raw))
+            Number::Held(values::value_of(raw))
         }
     }
 }
@@ -170,7 +170,7 @@ pub fn anchor(log: Log) -> Anchored
                 return Anchored::Nothing;
             }
             let raw = held.raw;
-            Anchored::Held(bodies::anchor_of(raw))
+            Anchored::Held(anchors::anchor_of(raw))
         }
     }
 }

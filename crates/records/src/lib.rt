@@ -67,7 +67,7 @@ pub fn replaces(new: Raw, held: Raw) -> bool
     ensures { λ r. ⌜ r ≡ not (falls new held) ⌝ }
 {
     if ids::is_monotonic(new.tag, new.id) {
-        bodies::value_of(held) <= bodies::value_of(new)
+        values::value_of(held) <= values::value_of(new)
     } else {
         true
     }

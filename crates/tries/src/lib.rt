@@ -73,7 +73,7 @@ fn start(held: OptRaw, fresh: u8) -> CounterState
 {
     if held.some {
         let raw = held.raw;
-        return bodies::counter_of(raw);
+        return counters::counter_of(raw);
     }
     CounterState::fresh(fresh)
 }
@@ -89,7 +89,7 @@ fn spend_from(s: CounterState, room: bool, credential: u8) -> Decision
         Next::Refused(answer) => deciding::answers(answer, 0),
         Next::State(new) => deciding::writes(
             room,
-            bodies::counter_record(credential, new),
+            counters::counter_record(credential, new),
             before as u64,
         ),
     }
@@ -117,7 +117,7 @@ fn set_decision(held: OptRaw, room: bool, credential: u8, tries: u8) -> Decision
 {
     let s = start(held, tries);
     let new = s.after_reset(tries);
-    let written = deciding::writes(room, bodies::counter_record(credential, new), 0);
+    let written = deciding::writes(room, counters::counter_record(credential, new), 0);
     if !held.some {
         return written;
     }
@@ -156,7 +156,7 @@ fn larger(held: OptRaw, seen: u64) -> u64
 {
     if held.some {
         let raw = held.raw;
-        let old = bodies::value_of(raw);
+        let old = values::value_of(raw);
         if seen < old {
             return old;
         }
@@ -171,7 +171,7 @@ fn advance_from(most: u64, room: bool) -> Decision
         return deciding::answers(Answer::WriteError, 0);
     }
     let next = most + 1;
-    deciding::writes(room, bodies::value_record(ids::LAMPORT, next), next)
+    deciding::writes(room, values::value_record(ids::LAMPORT, next), next)
 }
 
 // The next number of the Lamport clock, on flash before this answers.

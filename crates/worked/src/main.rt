@@ -53,17 +53,17 @@ fn starred() {
     let pin = counter(3, 5, 4);
     slot_line(
         b"user pin 3, 5, 4: ",
-        slots::encode(bodies::counter_record(1, pin), 1),
+        slots::encode(counters::counter_record(1, pin), 1),
     );
     number_line(b"remaining: ", pin.remaining());
     slot_line(
         b"lamport 258: ",
-        slots::encode(bodies::value_record(ids::LAMPORT, 258), 1),
+        slots::encode(values::value_record(ids::LAMPORT, 258), 1),
     );
-    let fits = bodies::anchor_record(anchor(7, 281_474_976_710_655, 9));
+    let fits = anchors::anchor_record(anchor(7, 281_474_976_710_655, 9));
     let raw = fits.raw;
     slot_line(b"anchor 7, 2^48 - 1, 9: ", slots::encode(raw, 1));
-    let above = bodies::anchor_record(anchor(7, 281_474_976_710_656, 9));
+    let above = anchors::anchor_record(anchor(7, 281_474_976_710_656, 9));
     let answer = above.answer;
     number_line(b"anchor 7, 2^48, 9: ", basics::number(answer));
     number_line(b"remaining of 3, 1, 2: ", counter(3, 1, 2).remaining());
@@ -149,7 +149,7 @@ fn crowded(head: u32) -> Log {
         };
     }
     let c = CounterState::fresh(3);
-    table[0] = bodies::counter_record(1, c);
+    table[0] = counters::counter_record(1, c);
     let state = State::Active {
         sector: 0,
         seq: 1,

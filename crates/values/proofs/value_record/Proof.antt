@@ -1,8 +1,8 @@
--- `bodies::value_record` meets its contract.
+-- `values::value_record` meets its contract.
 use Rattle.basics.specs.Little.{leBytes}
 use borrow.Author.Needs.{needs}
-use Rattle.bodies.proofs.value_record.Statement.{statement}
-use Rattle.bodies.proofs.value_record.Tie as tie
+use Rattle.values.proofs.value_record.Statement.{statement}
+use Rattle.values.proofs.value_record.Tie as tie
 
 bytes8-requires : tie.Need-bytes8-requires
 bytes8-requires c κs = search needs

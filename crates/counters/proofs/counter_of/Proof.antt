@@ -1,11 +1,13 @@
--- `bodies::value_of` meets its contract.
+-- `counters::counter_of` meets its contract.
+use lib.ListN.{getD}
 use mathlib.Core.Path.{ap₂, _∙_}
-use Prim.Native.Nat.{ℕ, _+_, _*_}
+use Prim.Native.Nat.{ℕ}
+use native.Mathlib.Omega.{arith}
 use Rattle.codec.proofs.Owned.{ten}
-use Rattle.bodies.proofs.Fields.{field8}
+use Rattle.bodies.proofs.Fields.{field}
 use borrow.Author.Needs.{needs}
-use Rattle.bodies.proofs.value_of.Statement.{statement}
-use Rattle.bodies.proofs.value_of.Tie as tie
+use Rattle.counters.proofs.counter_of.Statement.{statement}
+use Rattle.counters.proofs.counter_of.Tie as tie
 
 array-read-number4 : tie.Need-array-read-number4
 array-read-number4 c = search needs
@@ -37,19 +39,19 @@ array-read-number4-8 c = search needs
 number4-requires-2 : tie.Need-number4-requires-2
 number4-requires-2 c κs = search needs
 
-joined-requires : tie.Need-joined-requires
-joined-requires c κs = search needs
+array-read-t31 : tie.Need-array-read-t31
+array-read-t31 c = search needs
 
 returns : tie.Need-returns
 returns c =
-    let s0 = c .before .before .before .before in
+    let s0 = c .before .before .before in
     let r = s0 .args .raw in
-    c .joined .ensures
-    ∙ ap₂ (λ (x y : ℕ). x + 4294967296 * y) (c .before .before .number4 .ensures) (c .before .number42 .ensures)
-    ∙ field8 (r .body) (ten r (s0 .good .0))
+    let size = ten r (s0 .good .0) in
+    ap₂ (λ (x y : ℕ). record { total = x; «at_reset» = y; allowance = getD (r .body) 0 0 })
+    (c .before .number4 .ensures ∙ field (r .body) size 2 4 (omega arith)) (c .number42 .ensures ∙ field (r .body) size 6 4 (omega arith))
 
-pub value-of-spec : {M : Type 1} → statement M
-value-of-spec =
+pub counter-of-spec : {M : Type 1} → statement M
+counter-of-spec =
     tie.close
     (tie.spec
     array-read-number4
@@ -62,5 +64,5 @@ value-of-spec =
     array-read-number4-7
     array-read-number4-8
     number4-requires-2
-    joined-requires
+    array-read-t31
     returns)

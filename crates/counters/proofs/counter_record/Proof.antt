@@ -1,8 +1,8 @@
--- `bodies::counter_record` meets its contract.
+-- `counters::counter_record` meets its contract.
 use Rattle.basics.specs.Little.{leBytes}
 use borrow.Author.Needs.{needs}
-use Rattle.bodies.proofs.counter_record.Statement.{statement}
-use Rattle.bodies.proofs.counter_record.Tie as tie
+use Rattle.counters.proofs.counter_record.Statement.{statement}
+use Rattle.counters.proofs.counter_record.Tie as tie
 
 bytes4-requires : tie.Need-bytes4-requires
 bytes4-requires c κs = search needs

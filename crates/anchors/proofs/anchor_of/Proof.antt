@@ -1,12 +1,12 @@
--- `bodies::anchor_of` meets its contract.
+-- `anchors::anchor_of` meets its contract.
 use mathlib.Core.Path.{ap₂, _∙_}
 use Prim.Native.Nat.{ℕ, _+_, _*_}
 use native.Mathlib.Omega.{arith}
 use Rattle.codec.proofs.Owned.{ten}
 use Rattle.bodies.proofs.Fields.{field, field6}
 use borrow.Author.Needs.{needs}
-use Rattle.bodies.proofs.anchor_of.Statement.{statement}
-use Rattle.bodies.proofs.anchor_of.Tie as tie
+use Rattle.anchors.proofs.anchor_of.Statement.{statement}
+use Rattle.anchors.proofs.anchor_of.Tie as tie
 
 array-read-number4 : tie.Need-array-read-number4
 array-read-number4 c = search needs

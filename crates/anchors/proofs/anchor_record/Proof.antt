@@ -1,10 +1,10 @@
--- `bodies::anchor_record` meets its contract.
+-- `anchors::anchor_record` meets its contract.
 use Rattle.basics.specs.Little.{leBytes}
 use Rattle.bodies.specs.Bodies.{anchorRecord}
 use borrow.Author.Tests.{lt-ltb, le-ltb}
 use borrow.Author.Needs.{needs}
-use Rattle.bodies.proofs.anchor_record.Statement.{statement}
-use Rattle.bodies.proofs.anchor_record.Tie as tie
+use Rattle.anchors.proofs.anchor_record.Statement.{statement}
+use Rattle.anchors.proofs.anchor_record.Tie as tie
 
 none-requires : tie.Need-none-requires
 none-requires c κs = search needs
