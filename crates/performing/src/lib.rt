@@ -100,7 +100,7 @@ fn write_record(
     let count = records::new_count(log.count, at);
     let mut table = log.table;
     table[at] = rec;
-    let w = writing::append(
+    let w = appending::append(
         image,
         sectors,
         sector as usize,
@@ -170,7 +170,7 @@ pub fn format_with(
     ensures { λ r. ⌜ Shows (λ (cut : Bool). formatted (take count table) sectors log (flashWith (now (image .entry)) used cut)) r (now (image .exit)) ⌝ }
 {
     let state = log.state;
-    let w = writing::commit(
+    let w = committing::commit(
         image,
         sectors,
         sectors,

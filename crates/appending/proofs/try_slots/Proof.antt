@@ -1,4 +1,4 @@
--- `writing::try_slots` meets its contract.
+-- `appending::try_slots` meets its contract.
 use mathlib.Core.Path.{_≡_, refl, sym, ap, _∙_}
 use mathlib.Core.Bool.{Bool, true, false}
 use Prim.Native.Nat.{_+_, _*_, _-_, _≤_}
@@ -7,13 +7,13 @@ use lib.ListN.{length}
 use Rattle.basics.specs.Answers.{isDone}
 use Rattle.basics.specs.declared.Answer.the-variants.{Done, WriteError}
 use Rattle.flash.specs.Run.{Flash, Stepped, program}
 use Rattle.writing.specs.Appends.{triesFrom}
 use Rattle.writing.specs.Shown.{flashWith}
 use Rattle.writing.proofs.Showing.{step-is}
 use Rattle.writing.proofs.Stepping.{tries-end, tries-full, tries-done, tries-on}
 use Rattle.writing.proofs.Costs.{program-within}
-use Rattle.writing.proofs.try_slots.Statement.{statement}
-use Rattle.writing.proofs.try_slots.Tie as tie
+use Rattle.appending.proofs.try_slots.Statement.{statement}
+use Rattle.appending.proofs.try_slots.Tie as tie
 
 abbrev Inv-loop : tie.InvT-loop
 Inv-loop image₀ sector head bytes answer₀ h₀ u₀ left₀ image answer h u left =

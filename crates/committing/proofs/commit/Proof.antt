@@ -1,4 +1,4 @@
--- `writing::commit` meets its contract.
+-- `committing::commit` meets its contract.
 use mathlib.Core.Path.{_≡_, refl, sym, ap, ap₂, _∙_}
 use mathlib.Core.Bool.{Bool, true}
 use mathlib.Core.List.{List}
@@ -11,14 +11,14 @@ use Rattle.basics.specs.declared.Answer.the-variants.{Done, WriteError}
 use Rattle.records.specs.declared.State.the-variants.{Active}
 use Rattle.codec.specs.declared.Raw.{Raw}
 use Rattle.flash.specs.Run.{Flash, Stepped}
 use Rattle.writing.specs.Sectors.{writeSector}
 use Rattle.writing.specs.Commits.{after, commitFrom}
 use Rattle.writing.specs.Shown.{flashWith}
 use Rattle.writing.proofs.Showing.{step-is}
 use Rattle.writing.proofs.Stepping.{after-within, commit-skip, commit-used-up, commit-done, commit-on, commit-end}
 use Rattle.writing.proofs.Costs.{sector-within}
-use Rattle.writing.proofs.commit.Statement.{statement}
-use Rattle.writing.proofs.commit.Tie as tie
+use Rattle.committing.proofs.commit.Statement.{statement}
+use Rattle.committing.proofs.commit.Tie as tie
 
 abbrev Inv-loop : tie.InvT-loop
 Inv-loop image₀ sectors avoid first state next-seq table count answer₀ next₀ u₀ s₀ left₀ image answer next u s left =

@@ -1,4 +1,4 @@
--- `writing::append` meets its contract.
+-- `appending::append` meets its contract.
 use mathlib.Core.Path.{_≡_, refl, ap}
 use mathlib.Core.Bool.{Bool, true}
 use mathlib.Core.List.{List}
@@ -9,14 +9,14 @@ use Rattle.basics.specs.declared.Answer.the-variants.{WriteError}
 use Rattle.codec.specs.declared.Raw.{Raw}
 use Rattle.codec.specs.Slots.{slotOf}
 use Rattle.flash.specs.Run.{Flash}
 use Rattle.writing.specs.Appends.{Tried, triesFrom}
 use Rattle.writing.specs.Shown.{flashWith}
 use Rattle.writing.proofs.Showing.{tries-are}
 use Rattle.writing.proofs.Stepping.{after-within, append-full, append-tried}
 use Rattle.writing.proofs.Costs.{tries-within}
 use borrow.Author.Needs.{needs}
-use Rattle.writing.proofs.append.Statement.{statement}
-use Rattle.writing.proofs.append.Tie as tie
+use Rattle.appending.proofs.append.Statement.{statement}
+use Rattle.appending.proofs.append.Tie as tie
 
 abbrev start-of : tie.After-try-slots → tie.Start
 start-of t = t .before .before .before .before

@@ -1,8 +1,8 @@
--- `writing::after` meets its contract.
+-- `committing::after` meets its contract.
 use borrow.Author.Tests.{eq-eqb, ne-eqb}
 use borrow.Author.Needs.{needs}
-use Rattle.writing.proofs.after.Statement.{statement}
-use Rattle.writing.proofs.after.Tie as tie
+use Rattle.committing.proofs.after.Statement.{statement}
+use Rattle.committing.proofs.after.Tie as tie
 
 add-if1 : tie.Need-add-if1
 add-if1 c = search needs
