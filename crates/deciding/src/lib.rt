@@ -88,7 +88,7 @@ pub fn value_decision(held: OptRaw, room: bool, id: u8, new: u64) -> Decision
     if old < new {
         return written;
     }
-    if ids::is_monotonic(ids::VALUE_TAG, id) {
+    if meanings::is_monotonic(ids::VALUE_TAG, id) {
         return answers(Answer::IntegrityFailure, 0);
     }
     written

@@ -32,7 +32,7 @@ pub fn put(image: &mut [u8], log: Log, plan: Plan, credential: u8, new: CounterS
     let e = reading::enter(
         log,
         n,
-        ids::is_credential(credential),
+        meanings::is_credential(credential),
         ids::COUNTER_TAG,
         credential,
     );
@@ -45,7 +45,7 @@ pub fn put_value(image: &mut [u8], log: Log, plan: Plan, id: u8, new: u64) -> Do
     ensures { λ r. ⌜ Meets (putValueOf (now (image .entry)) log plan id new) r (now (image .exit)) ⌝ }
 {
     let n = flash::sectors(image.len());
-    let e = reading::enter(log, n, ids::is_value(id), ids::VALUE_TAG, id);
+    let e = reading::enter(log, n, meanings::is_value(id), ids::VALUE_TAG, id);
     let held = e.held;
     let d = deciding::value_decision(held, e.room, id, new);
     performing::perform(image, log, performing::unused(plan), n, e, d)

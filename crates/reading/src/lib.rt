@@ -93,7 +93,7 @@ pub fn get(log: Log, credential: u8) -> Counter
     let e = enter(
         log,
         MOST,
-        ids::is_credential(credential),
+        meanings::is_credential(credential),
         ids::COUNTER_TAG,
         credential,
     );
@@ -123,7 +123,7 @@ pub fn get(log: Log, credential: u8) -> Counter
 pub fn value(log: Log, id: u8) -> Number
     ensures { λ r. ⌜ r ≡ valueOf log id ⌝ }
 {
-    let e = enter(log, MOST, ids::is_value(id), ids::VALUE_TAG, id);
+    let e = enter(log, MOST, meanings::is_value(id), ids::VALUE_TAG, id);
     let answer = e.answer;
     if !basics::is_done(answer) {
         return Number::Refused(answer);

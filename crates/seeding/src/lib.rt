@@ -33,7 +33,7 @@ pub fn seeds_known(seeds: [Seed; SEEDS], count: usize) -> bool
     let mut i: usize = 0;
     while i < count {
         let s = seeds[i];
-        if !ids::is_credential(s.credential) {
+        if !meanings::is_credential(s.credential) {
             return false;
         }
         i += 1;

@@ -103,7 +103,7 @@ pub fn spend(image: &mut [u8], log: Log, plan: Plan, credential: u8, current: u8
     let e = reading::enter(
         log,
         n,
-        ids::is_credential(credential),
+        meanings::is_credential(credential),
         ids::COUNTER_TAG,
         credential,
     );
@@ -135,7 +135,7 @@ pub fn set(image: &mut [u8], log: Log, plan: Plan, credential: u8, tries: u8) ->
     let e = reading::enter(
         log,
         n,
-        ids::is_credential(credential),
+        meanings::is_credential(credential),
         ids::COUNTER_TAG,
         credential,
     );

@@ -1,9 +1,9 @@
 -- The result is whether `place_of` finds a place.
 use mathlib.Core.Path.{ap, sym, _∙_}
 use borrow.Author.Needs.{needs}
 use Rattle.ids.specs.Ids.{isPlace}
-use Rattle.ids.proofs.is_credential.Statement.{statement}
-use Rattle.ids.proofs.is_credential.Tie as tie
+use Rattle.meanings.proofs.is_credential.Statement.{statement}
+use Rattle.meanings.proofs.is_credential.Tie as tie
 
 place-of-requires : tie.Need-place-of-requires
 place-of-requires c κs = search needs

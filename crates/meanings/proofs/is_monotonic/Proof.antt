@@ -1,12 +1,12 @@
 -- The result is whether the meaning is that of a value which may only grow.
 use mathlib.Core.Path.{_≡_, ap, sym, _∙_}
 use borrow.Author.Needs.{needs}
 use Rattle.ids.specs.declared.Meaning.{Meaning}
 use Rattle.ids.specs.declared.Meaning.the-variants.{Credential, Monotonic, Free, Anchor, Unknown}
 use Rattle.ids.specs.Ids.{isMonotonic}
 use Rattle.ids.proofs.Laws.{grows, monotonic-meant}
-use Rattle.ids.proofs.is_monotonic.Statement.{statement}
-use Rattle.ids.proofs.is_monotonic.Tie as tie
+use Rattle.meanings.proofs.is_monotonic.Statement.{statement}
+use Rattle.meanings.proofs.is_monotonic.Tie as tie
 
 meaning-of-requires : tie.Need-meaning-of-requires
 meaning-of-requires c κs = search needs

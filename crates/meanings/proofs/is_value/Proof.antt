@@ -1,8 +1,8 @@
 -- The result is whether the id is one of 1..8.
 use native.Mathlib.Omega.{arith}
 use borrow.Author.Tests.{le-leb, lt-leb}
-use Rattle.ids.proofs.is_value.Statement.{statement}
-use Rattle.ids.proofs.is_value.Tie as tie
+use Rattle.meanings.proofs.is_value.Statement.{statement}
+use Rattle.meanings.proofs.is_value.Tie as tie
 
 returns : tie.Need-returns
 returns c = let d = c .before .before .args .id in rw (le-leb 1 d (omega arith), le-leb d 8 (omega arith))

@@ -6,9 +6,9 @@ use native.Mathlib.Nat.{eq-or-lt-of-le}
 use native.Mathlib.Omega.{arith}
 use borrow.Author.Needs.{needs}
 use borrow.Author.Tests.{ne-eqb, le-leb, lt-leb}
 use Rattle.ids.specs.Ids.{credentialMeaning, valueMeaning, meaningOf}
-use Rattle.ids.proofs.meaning_of.Statement.{statement}
-use Rattle.ids.proofs.meaning_of.Tie as tie
+use Rattle.meanings.proofs.meaning_of.Statement.{statement}
+use Rattle.meanings.proofs.meaning_of.Tie as tie
 
 place-of-requires : tie.Need-place-of-requires
 place-of-requires c κs = search needs

@@ -4,10 +4,10 @@ use Prim.Native.Nat.{_≤_, _-_}
 use native.Mathlib.Omega.{arith}
 use borrow.Author.Needs.{needs}
 use lib.ListN.{length, drop}
 use Rattle.ids.specs.Ids.{placeFrom, placeOf, credentials}
 use Rattle.ids.proofs.Laws.{place-end, place-hit, place-miss}
-use Rattle.ids.proofs.place_of.Statement.{statement}
-use Rattle.ids.proofs.place_of.Tie as tie
+use Rattle.meanings.proofs.place_of.Statement.{statement}
+use Rattle.meanings.proofs.place_of.Tie as tie
 
 abbrev Inv-loop : tie.InvT-loop
 Inv-loop id i₀ i = (i ≤ length credentials) × (placeFrom i (drop i credentials) id ≡ placeOf credentials id)
