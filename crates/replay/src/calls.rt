@@ -126,7 +126,7 @@ fn read_none(line: &[u8], e: usize, log: Log) -> Reply
         return anchor(log);
     }
     if script::is_same(line, b"lamport") {
-        return told(tries::lamport(log));
+        return told(clock::lamport(log));
     }
     if script::is_same(line, b"needs_migration") {
         return told(reading::needs_migration(log));
@@ -319,7 +319,7 @@ fn spend(line: &[u8], e: usize, image: &mut [u8], log: Log, plan: Plan) -> Work 
         return unwritten(log, plan);
     }
     let x = n.x;
-    telling(tries::spend(image, log, plan, x[0] as u8, x[1] as u8))
+    telling(spending::spend(image, log, plan, x[0] as u8, x[1] as u8))
 }
 
 fn set(line: &[u8], e: usize, image: &mut [u8], log: Log, plan: Plan) -> Work {
@@ -328,7 +328,7 @@ fn set(line: &[u8], e: usize, image: &mut [u8], log: Log, plan: Plan) -> Work {
         return unwritten(log, plan);
     }
     let x = n.x;
-    quiet(tries::set(image, log, plan, x[0] as u8, x[1] as u8))
+    quiet(spending::set(image, log, plan, x[0] as u8, x[1] as u8))
 }
 
 fn advance_lamport(line: &[u8], e: usize, image: &mut [u8], log: Log, plan: Plan) -> Work {
@@ -337,7 +337,7 @@ fn advance_lamport(line: &[u8], e: usize, image: &mut [u8], log: Log, plan: Plan
         return unwritten(log, plan);
     }
     let x = n.x;
-    telling(tries::advance_lamport(image, log, plan, x[0]))
+    telling(clock::advance_lamport(image, log, plan, x[0]))
 }
 
 // A line whose first word ends at `e`, if it is a call that can write.

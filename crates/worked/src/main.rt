@@ -181,25 +181,25 @@ fn user_pin() -> [Seed; 8] {
 fn full_table() {
     let mut image = [0xFFu8; 8192];
     let log = crowded(33);
-    let d = tries::spend(&mut image, log, calm(), 1, 0);
+    let d = spending::spend(&mut image, log, calm(), 1, 0);
     let log = call_line(b"32 keys, one of them spent: ", &image, d);
-    let d = tries::spend(&mut image, log, calm(), 2, 3);
+    let d = spending::spend(&mut image, log, calm(), 2, 3);
     let _ = call_line(b"32 keys, a new one: ", &image, d);
 }
 
 fn full_sector() {
     let mut image = [0xFFu8; 8192];
-    let d = tries::spend(&mut image, crowded(255), calm(), 1, 0);
+    let d = spending::spend(&mut image, crowded(255), calm(), 1, 0);
     let log = call_line(b"head 255: ", &image, d);
-    let d = tries::spend(&mut image, log, calm(), 1, 0);
+    let d = spending::spend(&mut image, log, calm(), 1, 0);
     let _ = call_line(b"head 256: ", &image, d);
 }
 
 fn refused_programs() {
     let mut image = [0xFFu8; 8192];
-    let d = tries::spend(&mut image, crowded(33), refusing(2), 1, 0);
+    let d = spending::spend(&mut image, crowded(33), refusing(2), 1, 0);
     let log = call_line(b"two refused programs: ", &image, d);
-    let d = tries::spend(&mut image, log, refusing(3), 1, 0);
+    let d = spending::spend(&mut image, log, refusing(3), 1, 0);
     let _ = call_line(b"three: ", &image, d);
 }
 
@@ -209,7 +209,7 @@ fn one_spend() {
     let blank = o.log;
     let d = log::format(&mut image, blank, calm(), user_pin(), 1);
     let log = call_line(b"format: ", &image, d);
-    let d = tries::spend(&mut image, log, calm(), 1, 9);
+    let d = spending::spend(&mut image, log, calm(), 1, 9);
     let _ = call_line(b"spend: ", &image, d);
     listed(&image);
 }

@@ -1,13 +1,13 @@
--- `tries::start` meets its contract.
+-- `spending::start` meets its contract.
 use mathlib.Core.Path.{ap, sym, _∙_}
 use mathlib.Core.Bool.{Bool}
 use Rattle.basics.specs.Choice.{pick}
 use Rattle.ids.specs.Counters.{freshOf}
 use Rattle.bodies.specs.Bodies.{counterIn}
 use Rattle.tries.specs.Tries.{startOf}
 use borrow.Author.Needs.{needs}
-use Rattle.tries.proofs.start.Statement.{statement}
-use Rattle.tries.proofs.start.Tie as tie
+use Rattle.spending.proofs.start.Statement.{statement}
+use Rattle.spending.proofs.start.Tie as tie
 
 counter-of-requires : tie.Need-counter-of-requires
 counter-of-requires c κs = search needs

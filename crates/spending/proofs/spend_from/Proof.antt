@@ -1,4 +1,4 @@
--- `tries::spend_from` meets its contract.
+-- `spending::spend_from` meets its contract.
 use mathlib.Core.Path.{_≡_, ap, ap₂, sym, _∙_}
 use mathlib.Core.Bool.{Bool, false}
 use Prim.Native.Nat.{ℕ}
@@ -9,10 +9,10 @@ use Rattle.ids.specs.declared.Next.{Next}
 use Rattle.ids.specs.Counters.{remainingOf, failedOf}
 use Rattle.codec.specs.declared.Raw.{Raw}
 use Rattle.deciding.specs.Decisions.{give, write}
 use Rattle.tries.specs.Tries.{spentBy, spendFrom}
 use borrow.Author.Needs.{needs}
-use Rattle.tries.proofs.spend_from.Statement.{statement}
-use Rattle.tries.proofs.spend_from.Tie as tie
+use Rattle.spending.proofs.spend_from.Statement.{statement}
+use Rattle.spending.proofs.spend_from.Tie as tie
 
 -- where tries are left, by what follows a failure
 spent : (f : tie.After-after-failure) (x : Next) → f .after-failure .result ≡ x → let a = f .before .before .before .args in spentBy (a .room) (a .credential) (f .before .before .remaining .result) x ≡ spendFrom (a .s) (a .room) (a .credential)

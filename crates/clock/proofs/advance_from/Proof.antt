@@ -1,4 +1,4 @@
--- `tries::advance_from` meets its contract.
+-- `clock::advance_from` meets its contract.
 use mathlib.Core.Path.{ap, sym, _∙_}
 use mathlib.Core.Bool.{Bool}
 use Prim.Native.Nat.{_+_}
@@ -10,10 +10,10 @@ use Rattle.codec.specs.declared.Raw.{Raw}
 use Rattle.bodies.specs.Bodies.{valueRecord}
 use Rattle.deciding.specs.declared.Decision.{Decision}
 use Rattle.deciding.specs.Decisions.{refuse, write}
 use Rattle.tries.specs.Tries.{lamportMax, advanceFrom}
 use borrow.Author.Needs.{needs}
-use Rattle.tries.proofs.advance_from.Statement.{statement}
-use Rattle.tries.proofs.advance_from.Tie as tie
+use Rattle.clock.proofs.advance_from.Statement.{statement}
+use Rattle.clock.proofs.advance_from.Tie as tie
 
 abbrev by : tie.Start → Bool → Decision
 by s b = let a = s .args in pick b (refuse WriteError) (write (a .room) (valueRecord lamport (a .most + 1)) (a .most + 1))

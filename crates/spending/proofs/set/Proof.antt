@@ -1,4 +1,4 @@
--- `tries::set` meets its contract.
+-- `spending::set` meets its contract.
 use mathlib.Core.Path.{_≡_, ap, ap₂, _∙_}
 use mathlib.Core.Bool.{Bool}
 use Prim.Native.Nat.{ℕ}
@@ -9,12 +9,12 @@ use Rattle.flash.specs.Image.{sectorsIn}
 use Rattle.fitting.proofs.Owned.{whole-log}
 use Rattle.reading.specs.Entering.{entryOf}
 use Rattle.performing.proofs.Calling.{call-ready, call-meets}
 use Rattle.tries.specs.Tries.{setOf}
 use Rattle.tries.specs.Tries.{setDecision}
 use Rattle.tries.proofs.Keyed.{set-keyed}
 use borrow.Author.Needs.{needs}
-use Rattle.tries.proofs.set.Statement.{statement}
-use Rattle.tries.proofs.set.Tie as tie
+use Rattle.spending.proofs.set.Statement.{statement}
+use Rattle.spending.proofs.set.Tie as tie
 
 abbrev start-of : tie.After-enter → tie.Start
 start-of e = e .before .before .before .before

@@ -1,14 +1,14 @@
--- `tries::larger` meets its contract.
+-- `clock::larger` meets its contract.
 use mathlib.Core.Path.{_≡_, ap, sym, _∙_}
 use mathlib.Core.Bool.{Bool}
 use Prim.Native.Nat.{max}
 use native.Mathlib.Omega.{arith}
 use Rattle.basics.specs.Choice.{pick}
 use Rattle.bodies.specs.Bodies.{valueIn}
 use Rattle.tries.specs.Tries.{seenOf}
 use borrow.Author.Needs.{needs}
-use Rattle.tries.proofs.larger.Statement.{statement}
-use Rattle.tries.proofs.larger.Tie as tie
+use Rattle.clock.proofs.larger.Statement.{statement}
+use Rattle.clock.proofs.larger.Tie as tie
 
 value-of-requires : tie.Need-value-of-requires
 value-of-requires c κs = search needs

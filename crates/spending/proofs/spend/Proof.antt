@@ -1,4 +1,4 @@
--- `tries::spend` meets its contract.
+-- `spending::spend` meets its contract.
 use mathlib.Core.Path.{_≡_, ap, ap₂, _∙_}
 use mathlib.Core.Bool.{Bool}
 use Prim.Native.Nat.{ℕ}
@@ -10,12 +10,12 @@ use Rattle.flash.specs.Image.{sectorsIn}
 use Rattle.fitting.proofs.Owned.{whole-log}
 use Rattle.reading.specs.Entering.{entryOf}
 use Rattle.performing.proofs.Calling.{call-ready, call-meets}
 use Rattle.tries.specs.Tries.{spendOf}
 use Rattle.tries.specs.Tries.{startOf, spendDecision, spendFrom}
 use Rattle.tries.proofs.Keyed.{spend-keyed}
 use borrow.Author.Needs.{needs}
-use Rattle.tries.proofs.spend.Statement.{statement}
-use Rattle.tries.proofs.spend.Tie as tie
+use Rattle.spending.proofs.spend.Statement.{statement}
+use Rattle.spending.proofs.spend.Tie as tie
 
 abbrev start-of : tie.After-enter → tie.Start
 start-of e = e .before .before .before .before

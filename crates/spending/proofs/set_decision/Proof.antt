@@ -1,4 +1,4 @@
--- `tries::set_decision` meets its contract.
+-- `spending::set_decision` meets its contract.
 use mathlib.Core.Path.{_≡_, ap, sym, _∙_}
 use mathlib.Core.Bool.{Bool, _&&_}
 use Prim.Native.Nat.{ℕ}
@@ -11,10 +11,10 @@ use Rattle.codec.specs.declared.Raw.{Raw}
 use Rattle.bodies.specs.Bodies.{counterRecord}
 use Rattle.deciding.specs.declared.Decision.{Decision}
 use Rattle.deciding.specs.Decisions.{give, write}
 use Rattle.tries.specs.Tries.{startOf, setDecision}
 use borrow.Author.Needs.{needs}
-use Rattle.tries.proofs.set_decision.Statement.{statement}
-use Rattle.tries.proofs.set_decision.Tie as tie
+use Rattle.spending.proofs.set_decision.Statement.{statement}
+use Rattle.spending.proofs.set_decision.Tie as tie
 
 module _ (w : tie.After-writes) where
   abbrev start-of : tie.Start

@@ -1,4 +1,4 @@
--- `tries::advance_lamport` meets its contract.
+-- `clock::advance_lamport` meets its contract.
 use mathlib.Core.Path.{_≡_, ap, ap₂, _∙_}
 use mathlib.Core.Bool.{Bool, true}
 use Prim.Native.Nat.{ℕ}
@@ -9,12 +9,12 @@ use Rattle.flash.specs.Image.{sectorsIn}
 use Rattle.fitting.proofs.Owned.{whole-log}
 use Rattle.reading.specs.Entering.{entryOf}
 use Rattle.performing.proofs.Calling.{call-ready, call-meets}
 use Rattle.tries.specs.Tries.{advanceOf}
 use Rattle.tries.specs.Tries.{seenOf, advanceDecision, advanceFrom}
 use Rattle.tries.proofs.Keyed.{advance-keyed}
 use borrow.Author.Needs.{needs}
-use Rattle.tries.proofs.advance_lamport.Statement.{statement}
-use Rattle.tries.proofs.advance_lamport.Tie as tie
+use Rattle.clock.proofs.advance_lamport.Statement.{statement}
+use Rattle.clock.proofs.advance_lamport.Tie as tie
 
 abbrev start-of : tie.After-enter → tie.Start
 start-of e = e .before .before .before
