@@ -37,7 +37,7 @@ pub fn put(image: &mut [u8], log: Log, plan: Plan, credential: u8, new: CounterS
         credential,
     );
     let held = e.held;
-    let d = deciding::put_decision(held, e.room, credential, new);
+    let d = puts::put_decision(held, e.room, credential, new);
     performing::perform(image, log, performing::unused(plan), n, e, d)
 }
 
@@ -47,7 +47,7 @@ pub fn put_value(image: &mut [u8], log: Log, plan: Plan, id: u8, new: u64) -> Do
     let n = flash::sectors(image.len());
     let e = reading::enter(log, n, meanings::is_value(id), ids::VALUE_TAG, id);
     let held = e.held;
-    let d = deciding::value_decision(held, e.room, id, new);
+    let d = puts::value_decision(held, e.room, id, new);
     performing::perform(image, log, performing::unused(plan), n, e, d)
 }
 
@@ -102,7 +102,7 @@ fn first_anchor(image: &mut [u8], log: Log, used: Used, sectors: usize, new: Anc
         erased: f.erased,
     };
     let empty = f.log;
-    let d = deciding::anchor_decision(held, true, new);
+    let d = anchoring::anchor_decision(held, true, new);
     performing::perform(image, empty, left, sectors, e, d)
 }
 
@@ -118,7 +118,7 @@ pub fn put_anchor(image: &mut [u8], log: Log, plan: Plan, new: Anchor) -> Done
         return first_anchor(image, log, used, n, new);
     }
     let held = e.held;
-    let d = deciding::anchor_decision(held, e.room, new);
+    let d = anchoring::anchor_decision(held, e.room, new);
     performing::perform(image, log, used, n, e, d)
 }
 

@@ -1,11 +1,11 @@
--- `deciding::anchor_decision` meets its contract.
+-- `anchoring::anchor_decision` meets its contract.
 use mathlib.Core.Path.{sym, _∙_}
 use borrow.Author.Tests.{not-true, not-false}
 use Rattle.deciding.specs.Decisions.{anchorWrite}
 use Rattle.deciding.proofs.Deciding.{anchor-first, anchor-over, anchor-same, anchor-new-gen, anchor-below, anchor-above}
 use borrow.Author.Needs.{needs}
-use Rattle.deciding.proofs.anchor_decision.Statement.{statement}
-use Rattle.deciding.proofs.anchor_decision.Tie as tie
+use Rattle.anchoring.proofs.anchor_decision.Statement.{statement}
+use Rattle.anchoring.proofs.anchor_decision.Tie as tie
 
 anchor-write-requires : tie.Need-anchor-write-requires
 anchor-write-requires c κs = search needs

@@ -1,10 +1,10 @@
--- `deciding::anchor_write` meets its contract.
+-- `anchoring::anchor_write` meets its contract.
 use mathlib.Core.Path.{sym, _∙_}
 use borrow.Author.Tests.{not-true, not-false}
 use Rattle.deciding.proofs.Deciding.{made-not, made}
 use borrow.Author.Needs.{needs}
-use Rattle.deciding.proofs.anchor_write.Statement.{statement}
-use Rattle.deciding.proofs.anchor_write.Tie as tie
+use Rattle.anchoring.proofs.anchor_write.Statement.{statement}
+use Rattle.anchoring.proofs.anchor_write.Tie as tie
 
 anchor-record-requires : tie.Need-anchor-record-requires
 anchor-record-requires c κs = search needs

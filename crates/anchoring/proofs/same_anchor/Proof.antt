@@ -1,7 +1,7 @@
--- `deciding::same_anchor` meets its contract.
+-- `anchoring::same_anchor` meets its contract.
 use borrow.Author.Tests.{eq-eqb, ne-eqb}
-use Rattle.deciding.proofs.same_anchor.Statement.{statement}
-use Rattle.deciding.proofs.same_anchor.Tie as tie
+use Rattle.anchoring.proofs.same_anchor.Statement.{statement}
+use Rattle.anchoring.proofs.same_anchor.Tie as tie
 
 returns : tie.Need-returns
 returns c = rw (ne-eqb _ _ (c .if1 .taken))

@@ -1,4 +1,4 @@
--- `deciding::value_decision` meets its contract.
+-- `puts::value_decision` meets its contract.
 use mathlib.Core.Path.{_≡_, sym, ap, _∙_}
 use mathlib.Core.Bool.{Bool}
 use native.Mathlib.Omega.{arith}
@@ -7,11 +7,11 @@ use Rattle.basics.specs.Choice.{pick}
 use Rattle.basics.specs.declared.Answer.the-variants.{IntegrityFailure}
 use Rattle.codec.specs.declared.Raw.{Raw}
 use Rattle.bodies.specs.Bodies.{valueRecord}
 use Rattle.deciding.specs.Decisions.{refuse, write}
 use Rattle.deciding.proofs.Deciding.{valueWritten, value-first, value-over, over-same, over-above, over-below}
 use borrow.Author.Needs.{needs}
-use Rattle.deciding.proofs.value_decision.Statement.{statement}
-use Rattle.deciding.proofs.value_decision.Tie as tie
+use Rattle.puts.proofs.value_decision.Statement.{statement}
+use Rattle.puts.proofs.value_decision.Tie as tie
 
 written : (w : tie.After-writes) → let a = w .before .before .args in w .writes .result ≡ write (a .room) (valueRecord (a .id) (a .new)) 0
 written w = w .writes .ensures ∙ ap (λ (r : Raw). write (w .before .before .args .room) r 0) (w .before .value-record .ensures)

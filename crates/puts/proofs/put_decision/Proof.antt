@@ -1,15 +1,15 @@
--- `deciding::put_decision` meets its contract.
+-- `puts::put_decision` meets its contract.
 use mathlib.Core.Path.{_≡_, sym, ap, _∙_}
 use mathlib.Core.Bool.{Bool}
 use borrow.Author.Tests.{not-true, not-false}
 use Rattle.codec.specs.declared.Raw.{Raw}
 use Rattle.bodies.specs.Bodies.{counterRecord}
 use Rattle.basics.specs.Choice.{pick}
 use Rattle.deciding.specs.Decisions.{give, write}
 use Rattle.deciding.proofs.Deciding.{putWritten, put-first, put-below, put-over}
 use borrow.Author.Needs.{needs}
-use Rattle.deciding.proofs.put_decision.Statement.{statement}
-use Rattle.deciding.proofs.put_decision.Tie as tie
+use Rattle.puts.proofs.put_decision.Statement.{statement}
+use Rattle.puts.proofs.put_decision.Tie as tie
 
 written : (w : tie.After-writes) → let a = w .before .before .args in w .writes .result ≡ write (a .room) (counterRecord (a .credential) (a .new)) 0
 written w = w .writes .ensures ∙ ap (λ (r : Raw). write (w .before .before .args .room) r 0) (w .before .counter-record .ensures)

@@ -1,7 +1,7 @@
--- `deciding::same_counter` meets its contract.
+-- `puts::same_counter` meets its contract.
 use borrow.Author.Tests.{eq-eqb, ne-eqb}
-use Rattle.deciding.proofs.same_counter.Statement.{statement}
-use Rattle.deciding.proofs.same_counter.Tie as tie
+use Rattle.puts.proofs.same_counter.Statement.{statement}
+use Rattle.puts.proofs.same_counter.Tie as tie
 
 returns : tie.Need-returns
 returns c = rw (ne-eqb _ _ (c .if1 .taken))
