@@ -53,5 +53,5 @@ pub fn advance_lamport(image: &mut [u8], log: Log, plan: Plan, seen: u64) -> Don
     let e = reading::enter(log, n, true, ids::VALUE_TAG, ids::LAMPORT);
     let held = e.held;
     let d = advance_from(larger(held, seen), e.room);
-    performing::perform(image, log, performing::unused(plan), n, e, d)
+    acting::perform(image, log, performing::unused(plan), n, e, d)
 }

@@ -54,7 +54,7 @@ pub fn spend(image: &mut [u8], log: Log, plan: Plan, credential: u8, current: u8
     );
     let held = e.held;
     let d = spend_from(start(held, current), e.room, credential);
-    performing::perform(image, log, performing::unused(plan), n, e, d)
+    acting::perform(image, log, performing::unused(plan), n, e, d)
 }
 
 fn set_decision(held: OptRaw, room: bool, credential: u8, tries: u8) -> Decision
@@ -86,5 +86,5 @@ pub fn set(image: &mut [u8], log: Log, plan: Plan, credential: u8, tries: u8) ->
     );
     let held = e.held;
     let d = set_decision(held, e.room, credential, tries);
-    performing::perform(image, log, performing::unused(plan), n, e, d)
+    acting::perform(image, log, performing::unused(plan), n, e, d)
 }

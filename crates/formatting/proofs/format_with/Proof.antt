@@ -1,4 +1,4 @@
--- `performing::format_with` meets its contract.
+-- `formatting::format_with` meets its contract.
 use mathlib.Core.Path.{_≡_, sym, ap, _∙_}
 use mathlib.Core.List.{[]}
 use lib.ListN.{length, take}
@@ -9,10 +9,10 @@ use Rattle.fitting.proofs.Owned.{whole-log}
 use Rattle.fitting.proofs.Laws.{fits-unformatted, records-length, log-is}
 use Rattle.writing.specs.Commits.{commitFirst}
 use Rattle.writing.specs.Shown.{flashWith}
 use Rattle.performing.proofs.Finishing.{finished}
 use borrow.Author.Needs.{needs}
-use Rattle.performing.proofs.format_with.Statement.{statement}
-use Rattle.performing.proofs.format_with.Tie as tie
+use Rattle.formatting.proofs.format_with.Statement.{statement}
+use Rattle.formatting.proofs.format_with.Tie as tie
 
 commit-requires : tie.Need-commit-requires
 commit-requires c κs = search needs

@@ -1,14 +1,14 @@
--- `performing::perform` meets its contract.
+-- `acting::perform` meets its contract.
 use mathlib.Core.Path.{_≡_, refl, sym, _∙_}
 use mathlib.Core.Bool.{Bool, true}
 use borrow.Author.Tests.{not-true, not-false}
 use Rattle.basics.specs.Answers.{isDone}
 use Rattle.flash.specs.Run.{Flash}
 use Rattle.writing.specs.Shown.{flashWith}
 use Rattle.performing.proofs.Deciding.{on-refused, on-unformatted, on-failed, on-given, on-written}
 use borrow.Author.Needs.{needs}
-use Rattle.performing.proofs.perform.Statement.{statement}
-use Rattle.performing.proofs.perform.Tie as tie
+use Rattle.acting.proofs.perform.Statement.{statement}
+use Rattle.acting.proofs.perform.Tie as tie
 
 abbrev start-of : tie.After-is-done → tie.Start
 start-of d = d .before .before

@@ -1,4 +1,4 @@
--- `performing::write_record` meets its contract.
+-- `acting::write_record` meets its contract.
 use mathlib.Core.Path.{_≡_, sym, ap, ap₂, subst, _∙_}
 use mathlib.Core.Bool.{Bool}
 use mathlib.Core.List.{List}
@@ -16,10 +16,10 @@ use Rattle.fitting.proofs.Laws.{fits-clauses, fits-active, records-length, log-
 use Rattle.writing.specs.Commits.{Wrote}
 use Rattle.writing.specs.Appends.{appendOf}
 use Rattle.writing.specs.Shown.{flashWith, Writing}
 use Rattle.performing.proofs.Finishing.{finished}
 use borrow.Author.Needs.{needs}
-use Rattle.performing.proofs.write_record.Statement.{statement}
-use Rattle.performing.proofs.write_record.Tie as tie
+use Rattle.acting.proofs.write_record.Statement.{statement}
+use Rattle.acting.proofs.write_record.Tie as tie
 
 -- the table before and after, as the code holds them
 module _ (s : tie.Start) where
