@@ -1,0 +1,4 @@
+-- Bottom up: a slot that was cut, tables and what is read, the invariant, what each step leaves, the calls, sessions.
+pub mod Torn
+pub mod Tables
+pub mod Invariant

@@ -1,0 +1,3 @@
+-- What the calls promise together, in the paper's order.
+pub mod Chance
+pub mod Shown
