@@ -1,5 +1,5 @@
 -- The invariant between an image and a log: opening any image establishes it, and it says what opening finds.
-use mathlib.Core.Path.{_≡_, refl, sym, ap, ap₂, subst, _∙_}
+use mathlib.Core.Path.{_≡_, refl, sym, ap, subst, _∙_}
 use mathlib.Core.Bool.{Bool, true, false, false≢true}
 use mathlib.Core.List.{List, []}
 use mathlib.Core.Logic.{_⊎_, inl, inr}
@@ -9,11 +9,9 @@ use lib.Dec.{T, eqb, leb}
 use lib.ListN.{length, replicate}
 use lib.Pow.{areBytes}
 use borrow.Author.Tests.{eq-eqb, ne-eqb, eqb-true, eqb-false, leb-true, leb-false}
-use Rattle.basics.specs.Choice.{pick}
 use Rattle.basics.specs.Lists.{allAre}
 use Rattle.basics.proofs.Lists.{all-replicate, all-eq}
-use Rattle.basics.proofs.Choice.{by-test}
-use Rattle.basics.specs.declared.Answer.the-variants.{Done, BadImage}
+use Rattle.basics.specs.declared.Answer.the-variants.{Done}
 use Rattle.codec.specs.declared.Raw.{Raw}
 use Rattle.codec.specs.declared.Header.the-variants.{Invalid}
 use Rattle.codec.proofs.Laws.{erased-none}
@@ -28,16 +26,15 @@ use Rattle.records.specs.Logs.{logOf, recordsOf}
 use Rattle.records.proofs.Places.{places-take}
 use Rattle.scan.specs.declared.Chosen.{Chosen}
 use Rattle.scan.specs.declared.Chosen.the-variants.{Sector, Nothing}
-use Rattle.scan.specs.declared.RegionScan.{RegionScan}
 use Rattle.scan.specs.declared.Opened.{Opened}
 use Rattle.scan.specs.Choosing.{headerAt, chosenOf, Wins}
 use Rattle.scan.specs.Reading.{Read, tooMany, these, readFrom, recordsIn, headIn}
 use Rattle.scan.specs.Opening.{regionRead, regionChosen, scanOf, nextOf, logFrom, openOf}
 use Rattle.scan.proofs.Winning.{Right, chosen-right, winner-chosen, none-chosen}
-use Rattle.scan.proofs.Viewing.{Heads, head-right}
+use Rattle.scan.proofs.Viewing.{head-right}
 use Rattle.fitting.specs.Fitting.{seqMax, stateFits, logFits}
 use Rattle.fitting.proofs.Laws.{Placed, placed-state, log-fits}
-use Rattle.demands.specs.Shown.{Seen, unformatted, failed, active, seenBy, seen, Table, tableOf, headOf}
+use Rattle.demands.specs.Shown.{active, seenBy, seen, headOf}
 use Rattle.demands.proofs.Tables.{Proper, proper-none, ProperRead, read-proper, read-on, read-quiet}
 
 -- ---- the invariant

@@ -2,3 +2,6 @@
 pub mod Torn
 pub mod Tables
 pub mod Invariant
+pub mod Endings
+pub mod Filling
+pub mod Sectors

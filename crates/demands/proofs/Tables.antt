@@ -6,7 +6,7 @@ use mathlib.Core.Logic.{_⊎_, inl, inr}
 use Prim.Native.Nat.{ℕ, zero, suc, _+_, _≤_, _<_}
 use native.Mathlib.Omega.{arith}
 use lib.Dec.{T, eqb, ltb}
-use lib.ListN.{length, getD, take, length-append, length-set}
+use lib.ListN.{length, getD, length-append, length-set}
 use lib.Pow.{areBytes}
 use lib.Seq.{append-snoc, length-take-le}
 use borrow.Author.Tests.{eq-eqb, eqb-true, lt-ltb, ltb-true, ltb-false}
@@ -15,7 +15,7 @@ use Rattle.basics.proofs.Choice.{alike}
 use Rattle.basics.proofs.Lists.{bytes-head, bytes-tail, bytes-take}
 use Rattle.codec.specs.declared.Raw.{Raw}
 use Rattle.codec.specs.declared.OptRaw.{OptRaw}
-use Rattle.codec.specs.Slots.{bytesOf, rawOf, slotOf, some, none, decoded}
+use Rattle.codec.specs.Slots.{rawOf, slotOf, some, none, decoded}
 use Rattle.codec.proofs.RoundTrip.{decode-encode, decode-sealed}
 use Rattle.records.specs.Table.{limit, hasKey, sameKey, placeOf, holds, joined, falls, absorbed, hasRoom}
 use Rattle.records.proofs.Finding.{place-most, place-holds}
@@ -212,14 +212,15 @@ read-whole seq slot r t e =
     let s = decode-sealed seq slot r e in
     let bytes = subst (λ (l : List ℕ). T (areBytes l)) (s .bytes) (bytes-take 12 slot t) in
     let rest = bytes-tail (r .tag) (r .id ∷ r .body) bytes in
-    let twelve = ap length (sym (s .bytes)) ∙ length-take-le 12 slot (omega (arith, s .size)) in
-    (record {
-      tag-fits = bytes-head (r .tag) (r .id ∷ r .body) bytes;
-      id-fits = bytes-head (r .id) (r .body) rest;
-      ten = omega arith;
-      bytes = bytes-tail (r .id) (r .body) rest;
-    },
-    s .tag)
+    let twelve = ap length (sym (s .bytes)) ∙ length-take-le 12 slot (omega (arith, s .size)) in (
+      record {
+        tag-fits = bytes-head (r .tag) (r .id ∷ r .body) bytes;
+        id-fits = bytes-head (r .id) (r .body) rest;
+        ten = omega arith;
+        bytes = bytes-tail (r .id) (r .body) rest;
+      },
+      s .tag,
+    )
 
 abbrev pub ProperRead : Read → Type 0
 ProperRead tooMany = Unit {0}

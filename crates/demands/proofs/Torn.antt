@@ -1,11 +1,11 @@
 -- A slot that was cut while it was programmed: a record is none or whole but for the chance match, a header is none or has its seq.
 use mathlib.Core.Path.{_≡_, refl, sym, ap, ap₂, _∙_}
-use mathlib.Core.Bool.{Bool, true, false, _&&_, and-false, false≢true}
+use mathlib.Core.Bool.{Bool, true, false, and-false, false≢true}
 use mathlib.Core.List.{List, [], _∷_, _++_, append-nil}
 use mathlib.Core.Logic.{_⊎_, inl, inr}
 use Prim.Native.Nat.{ℕ, zero, suc, _+_, _-_, _^_, _≤_, _<_}
 use native.Mathlib.Omega.{arith}
-use lib.Dec.{T, eqb, leb}
+use lib.Dec.{T, leb}
 use lib.ListN.{length, getD, take, drop, replicate, length-replicate, getD-replicate, drop-of-length-le}
 use lib.Pow.{areBytes}
 use lib.Seq.{length-take-le, drop-drop, getD-take, getD-append-add}
@@ -19,10 +19,8 @@ use Rattle.basics.proofs.Little.{le-bytes}
 use Rattle.crc.specs.Register.{crc32Of}
 use Rattle.crc.proofs.Bounds.{crc-lt}
 use Rattle.codec.specs.declared.Raw.{Raw}
-use Rattle.codec.specs.declared.OptRaw.{OptRaw}
-use Rattle.codec.specs.declared.Header.{Header}
 use Rattle.codec.specs.declared.Header.the-variants.{Valid, Invalid}
-use Rattle.codec.specs.Slots.{sealed, crcIn, magicAt, headerBytes, headerSlot, isHeader, headerOf, crcUnder, bytesOf, rawOf, slotOf, isRecordWith, some, none, decodedWith, decoded}
+use Rattle.codec.specs.Slots.{sealed, crcIn, headerBytes, headerSlot, isHeader, headerOf, crcUnder, bytesOf, rawOf, slotOf, isRecordWith, some, none, decodedWith, decoded}
 use Rattle.codec.proofs.RoundTrip.{sealed-length, sealed-bytes, slot-parts, Sealed, decode-sealed, header-read, header-sealed}
 use Rattle.flash.specs.Run.{landed}
 use Rattle.flash.proofs.Landing.{landed-blank}
@@ -88,7 +86,7 @@ module _ (slot : List ℕ) (size : length slot ≡ 16) (k : ℕ) (most : k ≤ 1
   pub cut-length : length (cutAt k slot) ≡ 16
   cut-length = ap length cut-is ∙ splice-length k (16 - k) blanks slot (omega arith) (length-replicate (16 - k) 0xFF) ∙ size
 
-  cut-bytes : T (areBytes slot) → T (areBytes (cutAt k slot))
+  pub cut-bytes : T (areBytes slot) → T (areBytes (cutAt k slot))
   cut-bytes t = bytes-append (take k slot) blanks (bytes-take k slot t) (full (16 - k))
     where
       full : (n : ℕ) → T (areBytes (replicate n 0xFF))

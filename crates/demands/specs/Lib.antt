@@ -1,3 +1,4 @@
 -- What the calls promise together, in the paper's order.
 pub mod Chance
 pub mod Shown
+pub mod Healthy
