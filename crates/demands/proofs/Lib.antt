@@ -5,3 +5,4 @@ pub mod Invariant
 pub mod Endings
 pub mod Filling
 pub mod Sectors
+pub mod Commits
