@@ -5,14 +5,13 @@ use mathlib.Core.List.{List, []}
 use mathlib.Core.Logic.{_⊎_, inl, inr}
 use Prim.Native.Nat.{ℕ, zero, suc, _+_, _*_, _≤_, _<_}
 use native.Mathlib.Omega.{arith}
-use lib.Dec.{T, eqb}
+use lib.Dec.{eqb}
 use lib.ListN.{length}
-use lib.Pow.{areBytes}
 use borrow.Author.Tests.{eqb-false}
 use Rattle.basics.specs.Choice.{pick}
 use Rattle.basics.specs.Answers.{isDone}
 use Rattle.basics.specs.declared.Answer.{Answer}
-use Rattle.basics.specs.declared.Answer.the-variants.{Done, WriteError}
+use Rattle.basics.specs.declared.Answer.the-variants.{Done}
 use Rattle.basics.proofs.Choice.{by-test}
 use Rattle.codec.specs.declared.Raw.{Raw}
 use Rattle.codec.specs.declared.Header.the-variants.{Valid, Invalid}
@@ -33,7 +32,7 @@ use Rattle.writing.specs.Commits.{Wrote, after, commitFrom}
 use Rattle.writing.proofs.Stepping.{sector-unerased, after-within}
 use Rattle.demands.specs.Shown.{Seen, seenBy, Table, holding, tableIn}
 use Rattle.demands.proofs.Tables.{Proper}
-use Rattle.demands.proofs.Invariant.{Standing, Found, Agrees}
+use Rattle.demands.proofs.Invariant.{Found, Agrees}
 use Rattle.demands.proofs.Endings.{Fails, Cut, Still, erase-still, still-on}
 use Rattle.demands.proofs.Sectors.{Spared, Newest, Sectored, Below, sector-sectored}
 
@@ -66,7 +65,7 @@ module _ (n a : ℕ) (image : List ℕ) (next : ℕ) (t : List Raw) where
       beats y p u e (inl h) = f .wins .beats y p u (sym h ∙ e)
       beats y p u e (inr h) = absurd (valid-invalid (headerAt 2 left y) p h e)
 
-  found-below : (state : State) → Avoids state n a → (next ≡ seqMax → ⊥) → Found state n image next t → Below n image next
+  pub found-below : (state : State) → Avoids state n a → (next ≡ seqMax → ⊥) → Found state n image next t → Below n image next
   found-below Unformatted v m f y p u e = absurd (valid-invalid (headerAt 2 image y) p (f .2 y u) e)
   found-below Failed v m f y p u e = absurd v
   found-below (Active s seq head) v m f y p u e = go (f .wins .beats y p u e) (f .placed .later)

@@ -83,7 +83,7 @@ inv-fits image log i = ap (logFits (sectorsIn (length image))) (i .is) ∙ agree
 
 -- ---- what opening finds
 -- erased slots hold no record
-erased-quiet : (seq : ℕ) (slots : ℕ → List ℕ) (k : ℕ) → slots k ≡ replicate 16 0xFF → decoded seq (slots k) ≡ none
+pub erased-quiet : (seq : ℕ) (slots : ℕ → List ℕ) (k : ℕ) → slots k ≡ replicate 16 0xFF → decoded seq (slots k) ≡ none
 erased-quiet seq slots k e = erased-none seq (slots k) (ap (allAre 0xFF) e ∙ all-replicate 16 0xFF)
 
 -- all slots of a sector that is erased from head on read as those below head

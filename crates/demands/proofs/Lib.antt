@@ -6,3 +6,5 @@ pub mod Endings
 pub mod Filling
 pub mod Sectors
 pub mod Commits
+pub mod Appends
+pub mod Reaching
