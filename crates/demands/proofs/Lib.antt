@@ -8,3 +8,4 @@ pub mod Sectors
 pub mod Commits
 pub mod Appends
 pub mod Reaching
+pub mod Performing
