@@ -9,3 +9,4 @@ pub mod Commits
 pub mod Appends
 pub mod Reaching
 pub mod Performing
+pub mod Attaining

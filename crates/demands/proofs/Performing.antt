@@ -42,26 +42,27 @@ pub record WakesUp (P : Seen → Type 0) (later : Table) (image : List ℕ) : Ty
   pub shows : P (seen log) ⊎ (tableOf log ≡ later)
 
 -- P says what may be seen of a call that failed, C what must be known of one that was cut
-pub data SafeCall (C : Type 0) (P : Seen → Type 0) (later : Table) (o : Outcome) : Type 0 where
-  lasted : o .flash .cut ≡ false → Inv (o .flash .image) (o .log) → ((isDone (o .answer) ≡ true) × (tableOf (o .log) ≡ later)) ⊎ (Fails (o .answer) × P (seen (o .log))) → SafeCall C P later o
-  stopped : Cut (o .flash) → Fails (o .answer) → (C → WakesUp P later (o .flash .image)) → SafeCall C P later o
+pub data SafeCall (n : ℕ) (C : Type 0) (P : Seen → Type 0) (later : Table) (o : Outcome) : Type 0 where
+  lasted : o .flash .cut ≡ false → sectorsIn (length (o .flash .image)) ≡ n → Inv (o .flash .image) (o .log) → ((isDone (o .answer) ≡ true) × (tableOf (o .log) ≡ later)) ⊎ (Fails (o .answer) × P (seen (o .log))) → SafeCall n C P later o
+  stopped : Cut (o .flash) → Fails (o .answer) → (C → WakesUp P later (o .flash .image)) → SafeCall n C P later o
 
 -- a log that is handed back without a write
-pub unwritten-safe : (C : Type 0) (P : Seen → Type 0) (o : Outcome) → o .flash .cut ≡ false → Inv (o .flash .image) (o .log) → P (seen (o .log)) → SafeCall C P (tableOf (o .log)) o
-unwritten-safe C P o on i p = go (isDone (o .answer)) refl
-  where
-    go : (b : Bool) → isDone (o .answer) ≡ b → SafeCall C P (tableOf (o .log)) o
-    go true e = lasted on i (inl (e, refl))
-    go false e = lasted on i (inr (e, p))
+module _ (C : Type 0) (P : Seen → Type 0) (o : Outcome) (on : o .flash .cut ≡ false) (i : Inv (o .flash .image) (o .log)) (p : P (seen (o .log))) where
+  pub refusal-safe : (later : Table) → Fails (o .answer) → SafeCall (sectorsIn (length (o .flash .image))) C P later o
+  refusal-safe later e = lasted on refl i (inr (e, p))
 
-pub refusal-safe : (C : Type 0) (P : Seen → Type 0) (later : Table) (o : Outcome) → Fails (o .answer) → o .flash .cut ≡ false → Inv (o .flash .image) (o .log) → P (seen (o .log)) → SafeCall C P later o
-refusal-safe C P later o e on i p = lasted on i (inr (e, p))
+  pub unwritten-safe : SafeCall (sectorsIn (length (o .flash .image))) C P (tableOf (o .log)) o
+  unwritten-safe = go (isDone (o .answer)) refl
+    where
+      go : (b : Bool) → isDone (o .answer) ≡ b → SafeCall (sectorsIn (length (o .flash .image))) C P (tableOf (o .log)) o
+      go true e = lasted on refl i (inl (e, refl))
+      go false e = refusal-safe (tableOf (o .log)) e
 
 -- weaker demands
-pub safe-weaker : (C D : Type 0) (P Q : Seen → Type 0) (later : Table) (o : Outcome) → (D → C) → ((z : Seen) → P z → Q z) → SafeCall C P later o → SafeCall D Q later o
-safe-weaker C D P Q later o c q (lasted on i (inl d)) = lasted on i (inl d)
-safe-weaker C D P Q later o c q (lasted on i (inr d)) = lasted on i (inr (d .0, q (seen (o .log)) (d .1)))
-safe-weaker C D P Q later o c q (stopped x e k) = stopped x e (λ d. go (k (c d)))
+pub safe-weaker : (n : ℕ) (C D : Type 0) (P Q : Seen → Type 0) (later : Table) (o : Outcome) → (D → C) → ((z : Seen) → P z → Q z) → SafeCall n C P later o → SafeCall n D Q later o
+safe-weaker n C D P Q later o c q (lasted on z i (inl d)) = lasted on z i (inl d)
+safe-weaker n C D P Q later o c q (lasted on z i (inr d)) = lasted on z i (inr (d .0, q (seen (o .log)) (d .1)))
+safe-weaker n C D P Q later o c q (stopped x e k) = stopped x e (λ d. go (k (c d)))
   where
     go : WakesUp P later (o .flash .image) → WakesUp Q later (o .flash .image)
     go u = record { log = u .log; inv = u .inv; shows = wakes (u .shows) }
@@ -71,14 +72,14 @@ safe-weaker C D P Q later o c q (stopped x e k) = stopped x e (λ d. go (k (c d)
         wakes (inr a) = inr a
 
 -- ---- writes as outcomes
-seen-of : (state : State) (next : ℕ) (t : List Raw) → seen (logOf state next t) ≡ seenBy state t
+pub seen-of : (state : State) (next : ℕ) (t : List Raw) → seen (logOf state next t) ≡ seenBy state t
 seen-of state next t = ap (seenBy state) (places-take t)
 
-wrote-safe : (n : ℕ) (C : Type 0) (P : Seen → Type 0) (old new : List Raw) (w : Wrote) (value : ℕ) → Safe n C P old new w → SafeCall C P (holding new) (wroteOutcome w value new old)
+wrote-safe : (n : ℕ) (C : Type 0) (P : Seen → Type 0) (old new : List Raw) (w : Wrote) (value : ℕ) → Safe n C P old new w → SafeCall n C P (holding new) (wroteOutcome w value new old)
 wrote-safe n C P old new w value (Safe.done e c a s) =
-    rw e (lasted c (inv-of n (w .flash .image) (w .state) (w .next) new a) (inl (e, ap tableIn (seen-of (w .state) (w .next) new) ∙ s)))
+    rw e (lasted c (a .sized) (inv-of n (w .flash .image) (w .state) (w .next) new a) (inl (e, ap tableIn (seen-of (w .state) (w .next) new) ∙ s)))
 wrote-safe n C P old new w value (Safe.failed e c a p) =
-    rw e (lasted c (inv-of n (w .flash .image) (w .state) (w .next) old a) (inr (e, subst P (sym (seen-of (w .state) (w .next) old)) p)))
+    rw e (lasted c (a .sized) (inv-of n (w .flash .image) (w .state) (w .next) old a) (inr (e, subst P (sym (seen-of (w .state) (w .next) old)) p)))
 wrote-safe n C P old new w value (Safe.stopped e c k) = stopped c e (λ d. go (k d))
   where
     go : Wakes n P (holding new) (w .flash .image) → WakesUp P (holding new) (w .flash .image)
@@ -111,32 +112,32 @@ module _ (f : Flash) (log : Log) (on : f .cut ≡ false) (i : Inv (f .image) log
   abbrev Same : Seen → Type 0
   Same z = z ≡ seen log
 
-  appended-safe : (state : State) → log .state ≡ state → (r : Raw) (value : ℕ) → Writable r (recordsOf log) → SafeCall (Unmatched state r) Same (holding (joined r (recordsOf log))) (appended state n r value log f)
-  appended-safe Unformatted e r value w = refusal-safe _ Same _ _ refl on i refl
-  appended-safe Failed e r value w = refusal-safe _ Same _ _ refl on i refl
+  appended-safe : (state : State) → log .state ≡ state → (r : Raw) (value : ℕ) → Writable r (recordsOf log) → SafeCall n (Unmatched state r) Same (holding (joined r (recordsOf log))) (appended state n r value log f)
+  appended-safe Unformatted e r value w = refusal-safe _ Same _ on i refl _ refl
+  appended-safe Failed e r value w = refusal-safe _ Same _ on i refl _ refl
   appended-safe (Active s seq head) e r value w =
       let here = subst (λ (z : State). Agrees n (f .image) z (log .«next_seq») (recordsOf log)) e (i .agrees) in
       let before = ap (λ (z : State). seenBy z (recordsOf log)) (sym e) in
       wrote-safe n (ChanceMatch seq (slotOf seq r) → ⊥) Same (recordsOf log) (joined r (recordsOf log)) _ value
       (append-safe n s seq r (recordsOf log) w (log .«next_seq») Same before head f on here)
 
-  pub performed-safe : (d : Decision) → (d .write ≡ true → Writable (d .rec) (recordsOf log)) → SafeCall (Unmatched (log .state) (d .rec)) Same (decidedTable d log) (performed d n log f)
+  pub performed-safe : (d : Decision) → (d .write ≡ true → Writable (d .rec) (recordsOf log)) → SafeCall n (Unmatched (log .state) (d .rec)) Same (decidedTable d log) (performed d n log f)
   unfolding performed
   performed-safe d sound = go (d .write) refl
     where
       go : (b : Bool) → d .write ≡ b
-          → SafeCall (Unmatched (log .state) (d .rec)) Same (pick b (holding (joined (d .rec) (recordsOf log))) (tableOf log))
+          → SafeCall n (Unmatched (log .state) (d .rec)) Same (pick b (holding (joined (d .rec) (recordsOf log))) (tableOf log))
           (pick b (appended (log .state) n (d .rec) (d .value) log f) (record { answer = d .answer; value = d .value; log = log; flash = f }))
       go true e = appended-safe (log .state) refl (d .rec) (d .value) (sound e)
       go false e = unwritten-safe (Unmatched (log .state) (d .rec)) Same (record { answer = d .answer; value = d .value; log = log; flash = f }) on i refl
 
   -- ---- what comes of a format
-  pub formatted-safe : log .state ≡ Unformatted → (t : List Raw) → Proper t → SafeCall (Unit {0}) Same (holding t) (formatted t n log f)
+  pub formatted-safe : log .state ≡ Unformatted → (t : List Raw) → Proper t → SafeCall n (Unit {0}) Same (holding t) (formatted t n log f)
   formatted-safe e t proper =
       let here = subst (λ (z : State). Agrees n (f .image) z (log .«next_seq») (recordsOf log)) e (i .agrees) in
       let none = here .found .0 in
       let bare = subst (λ (l : List Raw). Agrees n (f .image) Unformatted (log .«next_seq») l) none here in
       let before = ap (λ (z : State). seenBy z (recordsOf log)) (sym e) in
-      subst (λ (z : State). SafeCall (Unit {0}) Same (holding t) (wroteOutcome (commitFirst n t z (log .«next_seq») f) 0 t [])) (sym e)
+      subst (λ (z : State). SafeCall n (Unit {0}) Same (holding t) (wroteOutcome (commitFirst n t z (log .«next_seq») f) 0 t [])) (sym e)
       (wrote-safe n (Unit {0}) Same [] t (commitFirst n t Unformatted (log .«next_seq») f) 0
       (commit-safe n n (Unit {0}) Same Unformatted refl [] t proper before n 0 _ (log .«next_seq») f (here .found .1) on refl bare))
