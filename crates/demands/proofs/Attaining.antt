@@ -6,7 +6,6 @@ use mathlib.Core.Logic.{_⊎_, inl, inr}
 use Prim.Native.Nat.{ℕ}
 use lib.ListN.{length}
 use Rattle.basics.specs.Choice.{pick}
-use Rattle.basics.specs.Answers.{isDone}
 use Rattle.codec.specs.declared.Raw.{Raw}
 use Rattle.flash.specs.declared.Plan.{Plan}
 use Rattle.flash.specs.Image.{sectorsIn}
@@ -22,11 +21,11 @@ use Rattle.log.specs.declared.Decision.{Decision}
 use Rattle.log.specs.Outcomes.{Outcome, flashOf}
 use Rattle.log.specs.Calls.{wroteOutcome, appended, performed, formatted}
 use Rattle.demands.specs.Healthy.{Healthy, healthy}
-use Rattle.demands.specs.Shown.{Seen, seenBy, seen, Table, holding, tableIn, tableOf}
+use Rattle.demands.specs.Shown.{Seen, Table, holding, tableIn, tableOf}
 use Rattle.demands.proofs.Tables.{Proper, Writable}
 use Rattle.demands.proofs.Invariant.{Agrees, Inv}
-use Rattle.demands.proofs.Endings.{Fails, Cut}
-use Rattle.demands.proofs.Reaching.{Idle, Reaches, append-reaches, first-reaches}
+use Rattle.demands.proofs.Endings.{Fails}
+use Rattle.demands.proofs.Reaching.{Reaches, append-reaches, first-reaches}
 use Rattle.demands.proofs.Performing.{SafeCall, lasted, stopped, seen-of, decidedTable}
 
 -- on a healthy flash the call comes to this table; or on no flash does it do anything

@@ -10,3 +10,5 @@ pub mod Appends
 pub mod Reaching
 pub mod Performing
 pub mod Attaining
+pub mod Succeeding
+pub mod First

@@ -1,16 +1,14 @@
 -- What comes of a decision or a format is safe, whole log and answer: the writes of before as calls hand them back.
 use mathlib.Core.Path.{_≡_, refl, sym, ap, subst, _∙_}
-use mathlib.Core.Bool.{Bool, true, false, false≢true}
+use mathlib.Core.Bool.{Bool, true, false}
 use mathlib.Core.List.{List, []}
 use mathlib.Core.Logic.{_⊎_, inl, inr}
 use Prim.Native.Nat.{ℕ}
 use lib.ListN.{length}
 use Rattle.basics.specs.Choice.{pick}
 use Rattle.basics.specs.Answers.{isDone}
-use Rattle.basics.proofs.Choice.{by-test}
 use Rattle.codec.specs.declared.Raw.{Raw}
 use Rattle.codec.specs.Slots.{slotOf}
-use Rattle.flash.specs.declared.Plan.{Plan}
 use Rattle.flash.specs.Image.{sectorsIn}
 use Rattle.flash.specs.Run.{Flash}
 use Rattle.records.specs.declared.State.{State}
@@ -20,19 +18,16 @@ use Rattle.records.specs.Table.{joined}
 use Rattle.records.specs.Logs.{logOf, recordsOf}
 use Rattle.records.proofs.Places.{places-take}
 use Rattle.writing.specs.Commits.{Wrote, commitFirst}
-use Rattle.writing.specs.Appends.{appendOf}
 use Rattle.log.specs.declared.Decision.{Decision}
-use Rattle.log.specs.Outcomes.{Outcome, flashOf}
+use Rattle.log.specs.Outcomes.{Outcome}
 use Rattle.log.specs.Calls.{wroteOutcome, appended, performed, formatted}
 use Rattle.demands.specs.Chance.{ChanceMatch}
-use Rattle.demands.specs.Healthy.{Healthy, healthy}
 use Rattle.demands.specs.Shown.{Seen, seenBy, seen, Table, holding, tableIn, tableOf}
 use Rattle.demands.proofs.Tables.{Proper, Writable}
 use Rattle.demands.proofs.Invariant.{Agrees, Inv, inv-of}
 use Rattle.demands.proofs.Endings.{Fails, Cut}
 use Rattle.demands.proofs.Commits.{Wakes, Safe, commit-safe}
 use Rattle.demands.proofs.Appends.{append-safe}
-use Rattle.demands.proofs.Reaching.{Idle, Reaches, append-reaches, first-reaches}
 
 -- ---- a call that is safe
 -- an image that was cut wakes with what P allows, or with the table of after
