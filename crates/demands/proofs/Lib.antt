@@ -12,3 +12,4 @@ pub mod Performing
 pub mod Attaining
 pub mod Succeeding
 pub mod First
+pub mod Tracing
