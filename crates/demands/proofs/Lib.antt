@@ -13,3 +13,5 @@ pub mod Attaining
 pub mod Succeeding
 pub mod First
 pub mod Tracing
+pub mod Wear
+pub mod Leaving

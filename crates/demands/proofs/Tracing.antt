@@ -1,5 +1,4 @@
 -- What every program and every erase keeps is kept by sectors, commits and appends, which are made of them: one induction for all such facts.
-use mathlib.Core.Bool.{true}
 use mathlib.Core.List.{List, [], _∷_}
 use Prim.Native.Nat.{ℕ, zero, suc, _+_, _≤_, _<_}
 use native.Mathlib.Omega.{arith}
@@ -17,7 +16,7 @@ use Rattle.flash.specs.Run.{Flash, Stepped, program, erase}
 use Rattle.records.specs.declared.State.{State}
 use Rattle.records.specs.declared.State.the-variants.{Active}
 use Rattle.writing.specs.Sectors.{onDone, writeRecords, writeSector}
-use Rattle.writing.specs.Commits.{Wrote, after, commitFrom, commitAfter}
+use Rattle.writing.specs.Commits.{Wrote, after, commitFrom}
 use Rattle.writing.specs.Appends.{Tried, triesFrom, appendOf}
 use Rattle.writing.proofs.Stepping.{after-within}
 
@@ -48,38 +47,41 @@ module _ (R : Flash → Flash → Type 0) (stays : (f : Flash) → R f f) (follo
 
   -- a commit writes sectors of the image other than the one that it avoids
   module _ (n a : ℕ) (t : List Raw) (wipe : (s : ℕ) → s < n → (s ≡ a → ⊥) → Sector s) (may : (s i : ℕ) → s < n → (s ≡ a → ⊥) → i ≤ length t → Slot s i) where
+    one-trace : (s next : ℕ) (f : Flash) → s < n → (s ≡ a → ⊥) → R f (writeSector s next t f .flash)
+    one-trace s next f within apart = sector-trace s next t f (wipe s within apart) (λ i l. may s i within apart l)
+
     pub commit-trace : (m s : ℕ) (last : Answer) (state : State) (next : ℕ) (f : Flash) → s < n → R f (commitFrom m n a s t last state next f .flash)
     unfolding commitFrom
     commit-trace zero s last state next f within = stays f
     commit-trace (suc m) s last state next f within =
         by-test (λ (w : Wrote). R f (w .flash)) (eqb s a) _ _ (λ _. commit-trace m (after n s) last state next f (after-within n s within))
-        (λ sa.
-        let apart = eqb-false s a sa in
-        let one = sector-trace s next t f (wipe s within apart) (λ i l. may s i within apart l) in
-        by-test (λ (w : Wrote). R f (w .flash)) (eqb next 4294967295) _ _ (λ _. stays f)
-        (λ _. by-test (λ (w : Wrote). R f (w .flash)) (isDone (writeSector s next t f .answer)) _ _ (λ _. one)
-        (λ _. follows f (writeSector s next t f .flash) _ one (commit-trace m (after n s) (writeSector s next t f .answer) state (next + 1) (writeSector s next t f .flash) (after-within n s within)))))
+        (λ e. by-test (λ (w : Wrote). R f (w .flash)) (eqb next 4294967295) _ _ (λ _. stays f)
+        (λ _. by-test (λ (w : Wrote). R f (w .flash)) (isDone (writeSector s next t f .answer)) _ _ (λ _. one-trace s next f within (eqb-false s a e))
+        (λ _. follows f (writeSector s next t f .flash) _ (one-trace s next f within (eqb-false s a e))
+        (commit-trace m (after n s) (writeSector s next t f .answer) state (next + 1) (writeSector s next t f .flash) (after-within n s within)))))
 
   -- tries program the slots from head on
-  pub tries-trace : (m s head : ℕ) (bytes : List ℕ) (last : Answer) (f : Flash) → ((i : ℕ) → head ≤ i → i < head + m → (i ≡ 256 → ⊥) → Slot s i) → R f (triesFrom m s head bytes last f .flash)
+  pub tries-trace : (m s head : ℕ) (bytes : List ℕ) (last : Answer) (f : Flash) → head ≤ 256 → ((i : ℕ) → head ≤ i → i < head + m → i < 256 → Slot s i) → R f (triesFrom m s head bytes last f .flash)
   unfolding triesFrom
-  tries-trace zero s head bytes last f may = stays f
-  tries-trace (suc m) s head bytes last f may =
+  tries-trace zero s head bytes last f high may = stays f
+  tries-trace (suc m) s head bytes last f high may =
       by-test (λ (o : Tried). R f (o .flash)) (eqb head 256) _ _ (λ _. stays f)
       (λ e.
-      let one = programs s head bytes f (may head (omega arith) (omega arith) (eqb-false head 256 e)) in
+      let unlike = eqb-false head 256 e in
+      let room : head < 256 = omega arith in
+      let one = programs s head bytes f (may head (omega arith) (omega arith) room) in
       by-test (λ (o : Tried). R f (o .flash)) (isDone (program s head bytes f .answer)) _ _ (λ _. one)
       (λ _. follows f (program s head bytes f .flash) _ one
-      (tries-trace m s (head + 1) bytes (program s head bytes f .answer) (program s head bytes f .flash) (λ i l u z. may i (omega arith) (omega arith) z))))
+      (tries-trace m s (head + 1) bytes (program s head bytes f .answer) (program s head bytes f .flash) (omega arith) (λ i l u z. may i (omega arith) (omega arith) z))))
 
-  pub append-trace : (n s seq head next : ℕ) (r : Raw) (t : List Raw) (f : Flash) → s < n
-      → ((i : ℕ) → head ≤ i → i < head + 3 → (i ≡ 256 → ⊥) → Slot s i)
+  pub append-trace : (n s seq head next : ℕ) (r : Raw) (t : List Raw) (f : Flash) → s < n → head ≤ 256
+      → ((i : ℕ) → head ≤ i → i < head + 3 → i < 256 → Slot s i)
       → ((x : ℕ) → x < n → (x ≡ s → ⊥) → Sector x) → ((x i : ℕ) → x < n → (x ≡ s → ⊥) → i ≤ length t → Slot x i)
       → R f (appendOf n s seq head next r t f .flash)
   unfolding appendOf
-  append-trace n s seq head next r t f within tried wipe may =
+  append-trace n s seq head next r t f within high tried wipe may =
       let o = triesFrom 3 s head (slotOf seq r) WriteError f in
-      let one = tries-trace 3 s head (slotOf seq r) WriteError f tried in
+      let one = tries-trace 3 s head (slotOf seq r) WriteError f high tried in
       by-test (λ (w : Wrote). R f (w .flash)) (o .full) _ _
       (λ _. follows f (o .flash) _ one (commit-trace n s t wipe may n (after n s) WriteError (Active s seq (o .head)) next (o .flash) (after-within n s within)))
       (λ _. one)
