@@ -17,9 +17,9 @@ use Rattle.records.specs.Table.{joined}
 use Rattle.records.specs.Logs.{logOf, recordsOf}
 use Rattle.writing.specs.Commits.{Wrote, commitFirst}
 use Rattle.writing.specs.Appends.{appendOf}
-use Rattle.log.specs.declared.Decision.{Decision}
-use Rattle.log.specs.Outcomes.{Outcome, flashOf}
-use Rattle.log.specs.Calls.{wroteOutcome, appended, performed, formatted}
+use Rattle.deciding.specs.declared.Decision.{Decision}
+use Rattle.performing.specs.Outcomes.{Outcome, flashOf}
+use Rattle.performing.specs.Performing.{wroteOutcome, appended, performed, formatted}
 use Rattle.demands.specs.Healthy.{Healthy, healthy}
 use Rattle.demands.specs.Shown.{Seen, Table, holding, tableIn, tableOf}
 use Rattle.demands.proofs.Tables.{Proper, Writable}

@@ -20,9 +20,9 @@ use Rattle.records.specs.declared.Log.{Log}
 use Rattle.records.specs.Table.{joined}
 use Rattle.records.specs.Logs.{logOf, recordsOf}
 use Rattle.fitting.specs.Fitting.{seqMax}
-use Rattle.log.specs.declared.Decision.{Decision}
-use Rattle.log.specs.Outcomes.{Outcome}
-use Rattle.log.specs.Calls.{performed, formatted}
+use Rattle.deciding.specs.declared.Decision.{Decision}
+use Rattle.performing.specs.Outcomes.{Outcome}
+use Rattle.performing.specs.Performing.{performed, formatted}
 use Rattle.demands.specs.Healthy.{Healthy}
 use Rattle.demands.specs.Shown.{Seen, seenBy, seen, Table, holding, tableIn, tableOf}
 use Rattle.demands.proofs.Tables.{proper-none, Writable}

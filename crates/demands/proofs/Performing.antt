@@ -18,9 +18,9 @@ use Rattle.records.specs.Table.{joined}
 use Rattle.records.specs.Logs.{logOf, recordsOf}
 use Rattle.records.proofs.Places.{places-take}
 use Rattle.writing.specs.Commits.{Wrote, commitFirst}
-use Rattle.log.specs.declared.Decision.{Decision}
-use Rattle.log.specs.Outcomes.{Outcome}
-use Rattle.log.specs.Calls.{wroteOutcome, appended, performed, formatted}
+use Rattle.deciding.specs.declared.Decision.{Decision}
+use Rattle.performing.specs.Outcomes.{Outcome}
+use Rattle.performing.specs.Performing.{wroteOutcome, appended, performed, formatted}
 use Rattle.demands.specs.Chance.{ChanceMatch}
 use Rattle.demands.specs.Shown.{Seen, seenBy, seen, Table, holding, tableIn, tableOf}
 use Rattle.demands.proofs.Tables.{Proper, Writable}

@@ -18,9 +18,9 @@ use Rattle.records.specs.Logs.{logOf, recordsOf}
 use Rattle.fitting.specs.Fitting.{seqMax}
 use Rattle.writing.specs.Commits.{Wrote, after, commitFirst}
 use Rattle.writing.specs.Appends.{appendOf}
-use Rattle.log.specs.declared.Decision.{Decision}
-use Rattle.log.specs.Outcomes.{Outcome}
-use Rattle.log.specs.Calls.{wroteOutcome, appended, performed, formatted}
+use Rattle.deciding.specs.declared.Decision.{Decision}
+use Rattle.performing.specs.Outcomes.{Outcome}
+use Rattle.performing.specs.Performing.{wroteOutcome, appended, performed, formatted}
 use Rattle.demands.specs.Healthy.{Healthy}
 use Rattle.demands.proofs.Tables.{Proper, Writable}
 use Rattle.demands.proofs.Invariant.{Agrees, Inv}

@@ -1,2 +1,2 @@
--- Laws of the calls' decisions.
-pub mod Deciding
+-- Laws of the calls.
+pub mod Anchoring

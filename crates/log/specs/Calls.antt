@@ -18,64 +18,29 @@ use Rattle.flash.specs.Run.{Flash}
 use Rattle.records.specs.declared.State.{State}
 use Rattle.records.specs.declared.State.the-variants.{Unformatted, Failed, Active}
 use Rattle.records.specs.declared.Log.{Log}
-use Rattle.records.specs.Table.{joined, absorbed}
-use Rattle.records.specs.Logs.{logOf, recordsOf}
-use Rattle.writing.specs.Commits.{Wrote, commitFirst}
-use Rattle.writing.specs.Appends.{appendOf}
-use Rattle.log.specs.declared.Decision.{Decision}
+use Rattle.records.specs.Table.{joined}
+use Rattle.deciding.specs.Decisions.{putDecision, valueDecision, anchorDecision}
+use Rattle.performing.specs.Outcomes.{Outcome, refused, entered}
+use Rattle.performing.specs.Performing.{decided, formatted}
 use Rattle.log.specs.declared.Seed.{Seed}
-use Rattle.log.specs.Outcomes.{Outcome, refused, entered}
-use Rattle.log.specs.Decisions.{whenActive, heldOf, roomFor, putDecision, valueDecision, anchorDecision}
-
--- ---- what comes of a decision
--- done: the new table and the value; else the table as it was and no value
-abbrev pub wroteOutcome : Wrote → ℕ → List Raw → List Raw → Outcome
-wroteOutcome w value new old =
-    record {
-      answer = w .answer;
-      value = pick (isDone (w .answer)) value 0;
-      log = logOf (w .state) (w .next) (pick (isDone (w .answer)) new old);
-      flash = w .flash;
-    }
-
-abbrev pub appended : State → ℕ → Raw → ℕ → Log → Flash → Outcome
-appended Unformatted n r value log f = refused NotFormatted log f
-appended Failed n r value log f = refused ReadError log f
-appended (Active sector seq head) n r value log f =
-    wroteOutcome (appendOf n sector seq head (log .«next_seq») r (joined r (recordsOf log)) f) value (joined r (recordsOf log)) (recordsOf log)
-
-unfoldable pub performed : Decision → ℕ → Log → Flash → Outcome
-performed d n log f =
-    pick (d .write) (appended (log .state) n (d .rec) (d .value) log f)
-    (record { answer = d .answer; value = d .value; log = log; flash = f })
 
 -- ---- put and put_value
-abbrev pub decided : (List Raw → Decision) → ℕ → Log → Flash → Outcome
-decided decision n log f = performed (whenActive (log .state) (decision (recordsOf log))) n log f
-
--- what a call decides on the record of its key
-abbrev pub keyed : ℕ → ℕ → (OptRaw → Bool → Decision) → List Raw → Decision
-keyed tag id decision t = decision (heldOf tag id t) (roomFor tag id t)
-
 unfoldable pub putOf : List ℕ → Log → Plan → ℕ → CounterState → Outcome
 putOf image log plan credential new =
     entered image log plan (isCredential credential)
-    (decided (keyed counterTag credential (λ (held : OptRaw) (room : Bool). putDecision held room credential new)))
+    (decided counterTag credential (λ (held : OptRaw) (room : Bool). putDecision held room credential new))
 
 unfoldable pub putValueOf : List ℕ → Log → Plan → ℕ → ℕ → Outcome
 putValueOf image log plan id new =
     entered image log plan (isValue id)
-    (decided (keyed valueTag id (λ (held : OptRaw) (room : Bool). valueDecision held room id new)))
+    (decided valueTag id (λ (held : OptRaw) (room : Bool). valueDecision held room id new))
 
 -- ---- put_anchor: "on an Unformatted log with head_seq 0 and head_slot 0, format empty first"
 abbrev pub isFirst : Anchor → Bool
 isFirst a = eqb (a .«head_seq») 0 && eqb (a .«head_slot») 0
 
-abbrev pub formatted : List Raw → ℕ → Log → Flash → Outcome
-formatted t n log f = wroteOutcome (commitFirst n t (log .state) (log .«next_seq») f) 0 t []
-
 abbrev pub anchorCall : Anchor → ℕ → Log → Flash → Outcome
-anchorCall a = decided (keyed anchorTag 0 (λ (held : OptRaw) (room : Bool). anchorDecision held room a))
+anchorCall a = decided anchorTag 0 (λ (held : OptRaw) (room : Bool). anchorDecision held room a)
 
 unfoldable pub anchoredFirst : Anchor → ℕ → Outcome → Outcome
 anchoredFirst a n o = pick (isDone (o .answer)) (anchorCall a n (o .log) (o .flash)) o
@@ -91,7 +56,7 @@ putAnchorOf image log plan a = entered image log plan true (λ (n : ℕ) (l : Lo
 -- ---- format: "a repeated credential keeps its place and takes the last state; places past the count are not looked at"
 unfoldable pub seeded : List Seed → List Raw → List Raw
 seeded [] t = t
-seeded (s ∷ seeds) t = seeded seeds (absorbed (counterRecord (s .credential) (s .state)) t)
+seeded (s ∷ seeds) t = seeded seeds (joined (counterRecord (s .credential) (s .state)) t)
 
 unfoldable pub seedsKnown : List Seed → Bool
 seedsKnown [] = true
@@ -103,6 +68,7 @@ formatOn Unformatted t n log f = formatted t n log f
 formatOn Failed t n log f = refused WriteError log f
 formatOn (Active sector seq head) t n log f = refused WriteError log f
 
+-- "seed count above 8"
 unfoldable pub formatOf : List ℕ → Log → Plan → List Seed → ℕ → Outcome
 formatOf image log plan seeds count =
     entered image log plan (leb count 8 && seedsKnown (take count seeds))

@@ -1,5 +1,3 @@
--- The calls that can write: what each decides, and what comes of it.
-pub mod Outcomes
-pub mod Decisions
+-- The calls that can write.
 pub mod Calls
 pub mod Steps

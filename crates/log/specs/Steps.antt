@@ -1,38 +1,27 @@
--- Between a decision and its outcome: what the steps of a call show.
+-- What the steps of put_anchor and format show.
+use mathlib.Core.Bool.{Bool, false, _&&_}
 use mathlib.Core.List.{List, []}
-use Prim.Native.Nat.{ℕ, _+_}
-use lib.Dec.{eqb}
-use Rattle.basics.specs.Choice.{pick}
+use lib.ListN.{length}
 use Rattle.basics.specs.Answers.{isDone}
 use Rattle.basics.specs.declared.Answer.{Answer}
+use Rattle.ids.specs.declared.Anchor.{Anchor}
+use Rattle.records.specs.declared.State.{State}
+use Rattle.records.specs.declared.State.the-variants.{Unformatted, Failed, Active}
+use Rattle.records.specs.Logs.{places}
 use Rattle.codec.specs.declared.Raw.{Raw}
-use Rattle.flash.specs.declared.Plan.{Plan}
-use Rattle.records.specs.declared.Log.{Log}
-use Rattle.writing.specs.declared.Wrote.{Wrote}
-use Rattle.log.specs.declared.Done.{Done}
-use Rattle.log.specs.Outcomes.{doneOf, flashOf, refused}
+use Rattle.log.specs.declared.Seed.{Seed}
+use Rattle.log.specs.declared.Seeded.{Seeded}
+use Rattle.log.specs.Calls.{isFirst, seeded}
 
--- a refusal, whatever the image
-abbrev pub refusalOf : Answer → Log → Plan → Done
-refusalOf a log plan = doneOf (refused a log (flashOf [] plan))
+-- a call that was let in brings the first anchor of a log that was never formatted
+abbrev pub opensLog : Answer → State → Anchor → Bool
+opensLog answer Unformatted a = isDone answer && isFirst a
+opensLog answer Failed a = false
+opensLog answer (Active sector seq head) a = false
 
--- one record more where the key's place is the count
-abbrev pub newCount : ℕ → ℕ → ℕ
-newCount count at = pick (eqb at count) (count + 1) count
+abbrev pub tableOf : List Raw → Seeded
+tableOf t = record { count = length t; table = places t }
 
--- what was written becomes the log: the new table where it is done, else the old
-unfoldable pub finishedOf : Wrote → ℕ → Log → List Raw → ℕ → Done
-finishedOf w value log table count =
-    record {
-      answer = w .answer;
-      value = pick (isDone (w .answer)) value 0;
-      programmed = w .used .programmed;
-      erased = w .used .erased;
-      plan = w .used .plan;
-      log = record {
-        state = w .state;
-        «next_seq» = w .«next_seq»;
-        count = pick (isDone (w .answer)) count (log .count);
-        table = pick (isDone (w .answer)) table (log .table);
-      };
-    }
+-- the table that seeds make
+abbrev pub seededOf : List Seed → Seeded
+seededOf seeds = tableOf (seeded seeds [])

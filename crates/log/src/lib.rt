@@ -1,28 +1,32 @@
-// The calls on a log. So far: what put, put_value and put_anchor decide, and how what was written becomes the log that is handed back.
+// The calls that can write: put, put_value, put_anchor and format. Each looks for itself, decides, and performs what it decided.
 use basics::Answer;
 use codec::OptRaw;
 use codec::Raw;
 use flash::Plan;
 use ids::Anchor;
 use ids::CounterState;
+use performing::Done;
+use reading::Entry;
 use records::LIMIT;
 use records::Log;
 use records::State;
-use writing::Wrote;
+use writing::Used;
 ghost use mathlib.Core.Path.{_≡_};
-ghost use Prim.Native.Nat.{_≤_};
-ghost use Rattle.log.specs.Steps.{refusalOf, newCount, finishedOf};
-ghost use Rattle.log.specs.Decisions.{refuse, give, write, whenActive, sameCounter, sameAnchor, putDecision, valueDecision, anchorWrite, anchorDecision};
+ghost use mathlib.Core.Bool.{Bool, true, _&&_};
+ghost use mathlib.Core.List.{[]};
+ghost use Prim.Native.Nat.{_≤_, _<_};
+ghost use lib.Dec.{leb};
+ghost use lib.ListN.{length, take};
+ghost use Rattle.records.specs.declared.State.the-variants.{Unformatted};
+ghost use Rattle.writing.specs.Shown.{flashWith};
+ghost use Rattle.performing.specs.Outcomes.{Meets};
+ghost use Rattle.performing.specs.Performing.{formatted};
+ghost use Rattle.performing.specs.Steps.{Shows, Room};
+ghost use Rattle.log.specs.Calls.{putOf, putValueOf, isFirst, anchoredFirst, putAnchorOf, seedsKnown, formatOf};
+ghost use Rattle.log.specs.Steps.{opensLog, seededOf};
 
-// What a call on an image answers, and the log and plan that it hands back.
-pub struct Done {
-    pub answer: Answer,
-    pub value: u64,
-    pub programmed: usize,
-    pub erased: usize,
-    pub plan: Plan,
-    pub log: Log,
-}
+// The most seeds that a format takes.
+const SEEDS: usize = 8;
 
 // A credential and its counter, to format with.
 pub struct Seed {
@@ -30,221 +34,190 @@ pub struct Seed {
     pub state: CounterState,
 }
 
-// What a call has decided: an answer and a value, and where `write` is set, the record to append first.
-pub struct Decision {
-    pub answer: Answer,
-    pub write: bool,
-    pub value: u64,
-    pub rec: Raw,
+// The table that seeds make.
+pub struct Seeded {
+    pub count: usize,
+    pub table: [Raw; LIMIT],
 }
 
-fn refuses(answer: Answer) -> Decision
-    ensures { λ r. ⌜ r ≡ refuse answer ⌝ }
+pub fn put(image: &mut [u8], log: Log, plan: Plan, credential: u8, new: CounterState) -> Done
+    ensures { λ r. ⌜ Meets (putOf (now (image .entry)) log plan credential new) r (now (image .exit)) ⌝ }
 {
-    let z = Raw::none();
-    Decision {
-        answer: answer,
-        write: false,
-        value: 0,
-        rec: z,
-    }
+    let n = flash::sectors(image.len());
+    let e = reading::enter(
+        log,
+        n,
+        ids::is_credential(credential),
+        ids::COUNTER_TAG,
+        credential,
+    );
+    let held = e.held;
+    let d = deciding::put_decision(held, e.room, credential, new);
+    performing::perform(image, log, performing::unused(plan), n, e, d)
 }
 
-fn gives(value: u64) -> Decision
-    ensures { λ r. ⌜ r ≡ give value ⌝ }
+pub fn put_value(image: &mut [u8], log: Log, plan: Plan, id: u8, new: u64) -> Done
+    ensures { λ r. ⌜ Meets (putValueOf (now (image .entry)) log plan id new) r (now (image .exit)) ⌝ }
 {
-    let z = Raw::none();
-    Decision {
-        answer: Answer::Done,
-        write: false,
-        value: value,
-        rec: z,
-    }
+    let n = flash::sectors(image.len());
+    let e = reading::enter(log, n, ids::is_value(id), ids::VALUE_TAG, id);
+    let held = e.held;
+    let d = deciding::value_decision(held, e.room, id, new);
+    performing::perform(image, log, performing::unused(plan), n, e, d)
 }
 
-// A record to write, where there is room for its key.
-pub fn writes(room: bool, rec: Raw, value: u64) -> Decision
-    ensures { λ r. ⌜ r ≡ write room rec value ⌝ }
-{
-    if !room {
-        return refuses(Answer::KeystoreFull);
-    }
-    Decision {
-        answer: Answer::Done,
-        write: true,
-        value: value,
-        rec: rec,
-    }
-}
-
-// A log that isn't Active refuses before anything else is decided.
-pub fn when_active(state: State, decision: Decision) -> Decision
-    ensures { λ r. ⌜ r ≡ whenActive state decision ⌝ }
+// Whether a call that was let in brings the first anchor of a log that was never formatted.
+fn is_first(answer: Answer, state: State, new: Anchor) -> bool
+    ensures { λ r. ⌜ r ≡ opensLog answer state new ⌝ }
 {
     match state {
-        State::Unformatted => refuses(Answer::NotFormatted),
-        State::Failed => refuses(Answer::ReadError),
+        State::Unformatted => {
+            if !basics::is_done(answer) {
+                return false;
+            }
+            if new.head_seq != 0 {
+                return false;
+            }
+            new.head_slot == 0
+        }
+        State::Failed => false,
         State::Active {
             sector: _,
             seq: _,
             head: _,
-        } => decision,
+        } => false,
     }
 }
 
-fn same_counter(a: CounterState, b: CounterState) -> bool
-    ensures { λ r. ⌜ r ≡ sameCounter a b ⌝ }
+// The first anchor formats the log empty, and is then its first record.
+fn first_anchor(image: &mut [u8], log: Log, used: Used, sectors: usize, new: Anchor) -> Done
+    requires { ⌜ Room (length (now image)) sectors log used × (log .state ≡ Unformatted) × (0 < sectors) × (used .programmed ≤ 0) × (used .erased ≤ 0) × (isFirst new ≡ true) ⌝ }
+    ensures { λ r. ⌜ Shows (λ (cut : Bool). anchoredFirst new sectors (formatted [] sectors log (flashWith (now (image .entry)) used cut))) r (now (image .exit)) ⌝ }
 {
-    if a.total != b.total {
-        return false;
-    }
-    if a.at_reset != b.at_reset {
-        return false;
-    }
-    a.allowance == b.allowance
-}
-
-pub fn put_decision(held: OptRaw, room: bool, credential: u8, new: CounterState) -> Decision
-    ensures { λ r. ⌜ r ≡ putDecision held room credential new ⌝ }
-{
-    let written = writes(room, bodies::counter_record(credential, new), 0);
-    if !held.some {
-        return written;
-    }
-    let raw = held.raw;
-    let old = bodies::counter_of(raw);
-    if new.total < old.total {
-        return refuses(Answer::IntegrityFailure);
-    }
-    if same_counter(new, old) {
-        return gives(0);
-    }
-    written
-}
-
-pub fn value_decision(held: OptRaw, room: bool, id: u8, new: u64) -> Decision
-    ensures { λ r. ⌜ r ≡ valueDecision held room id new ⌝ }
-{
-    let written = writes(room, bodies::value_record(id, new), 0);
-    if !held.some {
-        return written;
-    }
-    let raw = held.raw;
-    let old = bodies::value_of(raw);
-    if new == old {
-        return gives(0);
-    }
-    if old < new {
-        return written;
-    }
-    if ids::is_monotonic(ids::VALUE_TAG, id) {
-        return refuses(Answer::IntegrityFailure);
-    }
-    written
-}
-
-fn same_anchor(a: Anchor, b: Anchor) -> bool
-    ensures { λ r. ⌜ r ≡ sameAnchor a b ⌝ }
-{
-    if a.format_gen != b.format_gen {
-        return false;
-    }
-    if a.head_seq != b.head_seq {
-        return false;
-    }
-    a.head_slot == b.head_slot
-}
-
-fn anchor_write(room: bool, new: Anchor) -> Decision
-    ensures { λ r. ⌜ r ≡ anchorWrite room new ⌝ }
-{
-    let made = bodies::anchor_record(new);
-    let answer = made.answer;
+    let f = performing::format_with(
+        image,
+        log,
+        used,
+        sectors,
+        records::empty_table(),
+        0,
+    );
+    let answer = f.answer;
     if !basics::is_done(answer) {
-        return refuses(answer);
+        return f;
     }
-    writes(room, made.raw, 0)
-}
-
-pub fn anchor_decision(held: OptRaw, room: bool, new: Anchor) -> Decision
-    ensures { λ r. ⌜ r ≡ anchorDecision held room new ⌝ }
-{
-    let written = anchor_write(room, new);
-    if !held.some {
-        return written;
-    }
-    let raw = held.raw;
-    let old = bodies::anchor_of(raw);
-    if same_anchor(new, old) {
-        return gives(0);
-    }
-    if new.format_gen != old.format_gen {
-        return written;
-    }
-    if new.head_seq < old.head_seq {
-        return refuses(Answer::IntegrityFailure);
-    }
-    written
-}
-
-// Nothing changes: log and plan are handed back as they came.
-fn refusal(answer: Answer, log: Log, plan: Plan) -> Done
-    ensures { λ r. ⌜ r ≡ refusalOf answer log plan ⌝ }
-{
-    Done {
-        answer: answer,
-        value: 0,
-        programmed: 0,
-        erased: 0,
-        plan: plan,
-        log: log,
-    }
-}
-
-fn new_count(count: usize, at: usize) -> usize
-    requires { ⌜ count ≤ 32 ⌝ }
-    ensures { λ r. ⌜ r ≡ newCount count at ⌝ }
-{
-    if at == count { count + 1 } else { count }
-}
-
-// What was written becomes the log.
-fn finish(w: Wrote, value: u64, log: Log, table: [Raw; LIMIT], count: usize) -> Done
-    ensures { λ r. ⌜ r ≡ finishedOf w value log table count ⌝ }
-{
-    let answer = w.answer;
-    let state = w.state;
-    let used = w.used;
-    let plan = used.plan;
-    if basics::is_done(answer) {
-        let new = Log {
-            state: state,
-            next_seq: w.next_seq,
-            count: count,
-            table: table,
-        };
-        return Done {
-            answer: answer,
-            value: value,
-            programmed: used.programmed,
-            erased: used.erased,
-            plan: plan,
-            log: new,
-        };
-    }
-    let kept = log.table;
-    let old = Log {
-        state: state,
-        next_seq: w.next_seq,
-        count: log.count,
-        table: kept,
+    let z = Raw::none();
+    let e = Entry {
+        answer: Answer::Done,
+        at: 0,
+        room: true,
+        held: OptRaw {
+            some: false,
+            raw: z,
+        },
     };
-    Done {
-        answer: answer,
-        value: 0,
-        programmed: used.programmed,
-        erased: used.erased,
+    let held = e.held;
+    let plan = f.plan;
+    let left = Used {
         plan: plan,
-        log: old,
+        programmed: f.programmed,
+        erased: f.erased,
+    };
+    let empty = f.log;
+    let d = deciding::anchor_decision(held, true, new);
+    performing::perform(image, empty, left, sectors, e, d)
+}
+
+pub fn put_anchor(image: &mut [u8], log: Log, plan: Plan, new: Anchor) -> Done
+    ensures { λ r. ⌜ Meets (putAnchorOf (now (image .entry)) log plan new) r (now (image .exit)) ⌝ }
+{
+    let n = flash::sectors(image.len());
+    let e = reading::enter(log, n, true, ids::ANCHOR_TAG, 0);
+    let answer = e.answer;
+    let state = log.state;
+    let used = performing::unused(plan);
+    if is_first(answer, state, new) {
+        return first_anchor(image, log, used, n, new);
+    }
+    let held = e.held;
+    let d = deciding::anchor_decision(held, e.room, new);
+    performing::perform(image, log, used, n, e, d)
+}
+
+// Whether there are at most eight seeds, and all of known credentials.
+fn seeds_known(seeds: [Seed; SEEDS], count: usize) -> bool
+    ensures { λ r. ⌜ r ≡ (leb count 8 && seedsKnown (take count seeds)) ⌝ }
+{
+    if SEEDS < count {
+        return false;
+    }
+    let mut i: usize = 0;
+    while i < count {
+        let s = seeds[i];
+        if !ids::is_credential(s.credential) {
+            return false;
+        }
+        i += 1;
+    }
+    true
+}
+
+// The table of the first `count` seeds.
+fn seed_table(seeds: [Seed; SEEDS], count: usize) -> Seeded
+    requires { ⌜ count ≤ 8 ⌝ }
+    ensures { λ r. ⌜ r ≡ seededOf (take count seeds) ⌝ }
+{
+    let mut table = records::empty_table();
+    let mut tags = [0u8; LIMIT];
+    let mut ids = [0u8; LIMIT];
+    let mut n: usize = 0;
+    let mut i: usize = 0;
+    while i < count {
+        let s = seeds[i];
+        let c = s.state;
+        let at = records::find(&tags, &ids, n, ids::COUNTER_TAG, s.credential);
+        table[at] = bodies::counter_record(s.credential, c);
+        tags[at] = ids::COUNTER_TAG;
+        ids[at] = s.credential;
+        if at == n {
+            n += 1;
+        }
+        i += 1;
+    }
+    Seeded {
+        count: n,
+        table: table,
+    }
+}
+
+pub fn format(image: &mut [u8], log: Log, plan: Plan, seeds: [Seed; SEEDS], count: usize) -> Done
+    ensures { λ r. ⌜ Meets (formatOf (now (image .entry)) log plan seeds count) r (now (image .exit)) ⌝ }
+{
+    let n = flash::sectors(image.len());
+    let e = reading::enter(
+        log,
+        n,
+        seeds_known(seeds, count),
+        ids::COUNTER_TAG,
+        0,
+    );
+    let answer = e.answer;
+    let state = log.state;
+    let used = performing::unused(plan);
+    if !basics::is_done(answer) {
+        return performing::answered(answer, 0, log, used);
+    }
+    match state {
+        State::Unformatted => {
+            let t = seed_table(seeds, count);
+            let table = t.table;
+            performing::format_with(image, log, used, n, table, t.count)
+        }
+        State::Failed => performing::answered(Answer::WriteError, 0, log, used),
+        State::Active {
+            sector: _,
+            seq: _,
+            head: _,
+        } => performing::answered(Answer::WriteError, 0, log, used),
     }
 }

@@ -8,13 +8,16 @@ use lib.ListN.{length}
 use Rattle.basics.specs.Choice.{pick}
 use Rattle.basics.specs.Answers.{isDone}
 use Rattle.basics.specs.declared.Answer.{Answer}
-use Rattle.basics.specs.declared.Answer.the-variants.{Done}
+use Rattle.basics.specs.declared.Answer.the-variants.{Done, WriteError}
 use Rattle.codec.specs.declared.Raw.{Raw}
 use Rattle.codec.specs.Slots.{slotOf, headerSlot}
 use Rattle.flash.specs.Run.{Flash, Stepped, program, erase}
 use Rattle.flash.proofs.Charging.{to-program-most, to-erase-most}
 use Rattle.basics.proofs.Choice.{by-test}
 use Rattle.writing.specs.Sectors.{onDone, writeRecords, writeSector}
+use Rattle.records.specs.declared.State.{State}
+use Rattle.records.specs.declared.State.the-variants.{Active}
+use Rattle.writing.specs.Commits.{Wrote, after, commitFrom}
 use Rattle.writing.specs.Appends.{Tried, triesFrom}
 
 -- at most p bytes more programmed, and e more erased
@@ -75,3 +78,28 @@ tries-within (suc m) s head bytes last f =
     by-test (λ (r : Tried). Within (16 * suc m) 0 f (r .flash)) (isDone (o .answer)) (record { full = false; answer = Done; head = head + 1; flash = o .flash }) again
     (λ d. record { programmed = omega (arith, w .programmed); erased = omega (arith, w .erased) })
     (λ d. record { programmed = omega (arith, w .programmed, ih .programmed); erased = omega (arith, w .erased, ih .erased) }))
+
+pub commit-within : (m n avoid s : ℕ) (t : List Raw) (last : Answer) (state : State) (next : ℕ) (f : Flash)
+    → Within (m * (16 * length t + 16)) (m * 4096) f (commitFrom m n avoid s t last state next f .flash)
+unfolding commitFrom
+commit-within zero n avoid s t last state next f = record { programmed = omega arith; erased = omega arith }
+commit-within (suc m) n avoid s t last state next f =
+    let o = writeSector s next t f in
+    let w = sector-within s next t f in
+    let one = 16 * length t + 16 in
+    let skipped = commitFrom m n avoid (after n s) t last state next f in
+    let further = commitFrom m n avoid (after n s) t (o .answer) state (next + 1) (o .flash) in
+    let held : Wrote = record { answer = WriteError; state = state; next = next; flash = f } in
+    let done : Wrote = record { answer = Done; state = Active s next (length t + 1); next = next + 1; flash = o .flash } in
+    let i = commit-within m n avoid (after n s) t last state next f in
+    let j = commit-within m n avoid (after n s) t (o .answer) state (next + 1) (o .flash) in
+    let P : Wrote → Type 0 = λ (r : Wrote). Within (suc m * one) (suc m * 4096) f (r .flash) in
+    by-test P (eqb s avoid) skipped (pick (eqb next 4294967295) held (pick (isDone (o .answer)) done further))
+    (λ e. record { programmed = omega (arith, i .programmed); erased = omega (arith, i .erased) })
+    (λ e.
+    by-test P (eqb next 4294967295) held (pick (isDone (o .answer)) done further)
+    (λ e. record { programmed = omega arith; erased = omega arith })
+    (λ e.
+    by-test P (isDone (o .answer)) done further
+    (λ d. record { programmed = omega (arith, w .programmed); erased = omega (arith, w .erased) })
+    (λ d. record { programmed = omega (arith, w .programmed, j .programmed); erased = omega (arith, w .erased, j .erased) })))

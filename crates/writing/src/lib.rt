@@ -62,7 +62,7 @@ fn program(image: &mut [u8], sector: usize, slot: usize, bytes: [u8; 16], used: 
 }
 
 fn erase(image: &mut [u8], sector: usize, used: Used) -> Step
-    requires { ⌜ (sector * 4096 + 4096 ≤ length (now image)) × (used .erased < 65537) ⌝ }
+    requires { ⌜ (sector * 4096 + 4096 ≤ length (now image)) × (used .erased < 131073) ⌝ }
     ensures { λ r. ⌜ Steps (λ (cut : Bool). run.erase sector (flashWith (now (image .entry)) used cut)) r (now (image .exit)) ⌝ }
 {
     let plan = used.plan;
@@ -119,7 +119,7 @@ fn write_sector(
     count: usize,
     used: Used,
 ) -> Step
-    requires { ⌜ (count ≤ 32) × (sector * 4096 + 4096 ≤ length (now image)) × (used .programmed ≤ 19000) × (used .erased < 65537) ⌝ }
+    requires { ⌜ (count ≤ 32) × (sector * 4096 + 4096 ≤ length (now image)) × (used .programmed ≤ 19000) × (used .erased < 131073) ⌝ }
     ensures { λ r. ⌜ Steps (λ (cut : Bool). writeSector sector seq (take count table) (flashWith (now (image .entry)) used cut)) r (now (image .exit)) ⌝ }
 {
     let e = erase(image, sector, used);
@@ -155,7 +155,7 @@ pub fn commit(
     count: usize,
     used: Used,
 ) -> Wrote
-    requires { ⌜ (count ≤ 32) × (sectors ≤ 16) × (sectors * 4096 ≤ length (now image)) × (first < sectors) × (used .programmed ≤ 48) × (used .erased ≤ 0) ⌝ }
+    requires { ⌜ (count ≤ 32) × (sectors ≤ 16) × (sectors * 4096 ≤ length (now image)) × (first < sectors) × (used .programmed ≤ 304) × (used .erased ≤ 65536) ⌝ }
     ensures { λ r. ⌜ Writes (λ (cut : Bool). commitFrom sectors sectors avoid first (take count table) WriteError state «next_seq» (flashWith (now (image .entry)) used cut)) r (now (image .exit)) ⌝ }
 {
     let mut answer = Answer::WriteError;
@@ -207,7 +207,7 @@ pub fn commit(
 
 // Up to three tries of a slot, each in a new place; `full` where head reaches 256 first.
 fn try_slots(image: &mut [u8], sector: usize, head: u32, bytes: [u8; 16], used: Used) -> Tried
-    requires { ⌜ (head ≤ 256) × (sector * 4096 + 4096 ≤ length (now image)) × (used .programmed ≤ 0) ⌝ }
+    requires { ⌜ (head ≤ 256) × (sector * 4096 + 4096 ≤ length (now image)) × (used .programmed ≤ 256) ⌝ }
     ensures { λ r. ⌜ Tries (λ (cut : Bool). triesFrom 3 sector head bytes WriteError (flashWith (now (image .entry)) used cut)) r (now (image .exit)) ⌝ }
 {
     let mut answer = Answer::WriteError;
@@ -258,7 +258,7 @@ pub fn append(
     count: usize,
     used: Used,
 ) -> Wrote
-    requires { ⌜ (count ≤ 32) × (sectors ≤ 16) × (sectors * 4096 ≤ length (now image)) × (sector < sectors) × (head ≤ 256) × (used .programmed ≤ 0) × (used .erased ≤ 0) ⌝ }
+    requires { ⌜ (count ≤ 32) × (sectors ≤ 16) × (sectors * 4096 ≤ length (now image)) × (sector < sectors) × (head ≤ 256) × (used .programmed ≤ 256) × (used .erased ≤ 65536) ⌝ }
     ensures { λ r. ⌜ Writes (λ (cut : Bool). appendOf sectors sector seq head «next_seq» «record» (take count table) (flashWith (now (image .entry)) used cut)) r (now (image .exit)) ⌝ }
 {
     let w = try_slots(image, sector, head, record.encode(seq), used);

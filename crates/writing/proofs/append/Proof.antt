@@ -37,7 +37,7 @@ shown-of t cut = record { full = t .try-slots .result .full; answer = t .try-slo
 tried-is : (t : tie.After-try-slots) (cut : Bool) → trying t cut ≡ shown-of t cut
 tried-is t cut = tries-are (trying t cut) (t .try-slots .result) (t .try-slots .last .0) (rw (t .before .encode .ensures) at (t .try-slots .ensures cut))
 
-cheap : (t : tie.After-try-slots) → (t .try-slots .result .used .programmed ≤ 48) × (t .try-slots .result .used .erased ≤ 0)
+cheap : (t : tie.After-try-slots) → (t .try-slots .result .used .programmed ≤ 304) × (t .try-slots .result .used .erased ≤ 65536)
 cheap t =
     let a = start-of t .args in
     let most = tries-within 3 (a .sector) (a .head) (slotOf (a .seq) (a .«record»)) WriteError (flash-of t true) in (

@@ -1,0 +1,2 @@
+-- What put, put_value and put_anchor decide.
+pub mod Decisions

@@ -1,0 +1,3 @@
+-- What every call tests first, and the calls that only read the log.
+pub mod Entering
+pub mod Reads

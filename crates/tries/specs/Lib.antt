@@ -1,0 +1,2 @@
+-- "Tries": the applet helpers.
+pub mod Tries

@@ -1,0 +1,101 @@
+-- "Tries": what the applets ask of a log.
+use mathlib.Core.Bool.{Bool, true, false, _&&_}
+use mathlib.Core.List.{List}
+use Prim.Native.Nat.{ℕ, _+_, max}
+use lib.Dec.{eqb, leb}
+use Rattle.basics.specs.Choice.{pick}
+use Rattle.basics.specs.Answers.{numberOf}
+use Rattle.basics.specs.declared.Answer.{Answer}
+use Rattle.basics.specs.declared.Answer.the-variants.{WriteError}
+use Rattle.ids.specs.declared.CounterState.{CounterState}
+use Rattle.ids.specs.declared.Next.{Next}
+use Rattle.ids.specs.declared.Next.the-variants as next
+use Rattle.ids.specs.Ids.{counterTag, valueTag, isCredential, lamport}
+use Rattle.ids.specs.Counters.{freshOf, remainingOf, failedOf, resetOf}
+use Rattle.codec.specs.declared.OptRaw.{OptRaw}
+use Rattle.bodies.specs.Bodies.{counterRecord, counterIn, valueRecord, valueIn}
+use Rattle.flash.specs.declared.Plan.{Plan}
+use Rattle.records.specs.declared.Log.{Log}
+use Rattle.deciding.specs.declared.Decision.{Decision}
+use Rattle.deciding.specs.Decisions.{refuse, give, write}
+use Rattle.reading.specs.declared.Counter.{Counter}
+use Rattle.reading.specs.declared.Counter.the-variants as counter
+use Rattle.reading.specs.declared.Told.{Told}
+use Rattle.reading.specs.Reads.{getOf, told, refusedTold, lamportOf}
+use Rattle.performing.specs.Outcomes.{Outcome, entered}
+use Rattle.performing.specs.Performing.{decided}
+use Rattle.tries.specs.declared.Left.{Left}
+use Rattle.tries.specs.declared.Left.the-variants.{Refused, Nothing, Tries}
+
+-- ---- remaining
+abbrev pub remainingIn : Counter → Left
+remainingIn (counter.Refused a) = Refused a
+remainingIn counter.Nothing = Nothing
+remainingIn (counter.Held s) = Tries (remainingOf s)
+
+abbrev pub remainingLeft : Log → ℕ → Left
+remainingLeft log credential = remainingIn (getOf log credential)
+
+-- ---- load: "gives 0 where the log would answer 4 or 5, and the fresh number only if nothing is held and no record exists; 2 and 3 stay refusals"
+abbrev pub loadBy : Bool → ℕ → Left → Told
+loadBy exists fresh (Refused a) = pick (leb 4 (numberOf a)) (told 0) (refusedTold a)
+loadBy exists fresh Nothing = told (pick exists 0 fresh)
+loadBy exists fresh (Tries n) = told n
+
+abbrev pub loadOf : Log → ℕ → Bool → ℕ → Told
+loadOf log credential exists fresh = loadBy exists fresh (remainingLeft log credential)
+
+-- ---- spend: "it starts from the caller's number where no record is held"
+unfoldable pub startOf : OptRaw → ℕ → CounterState
+startOf held fresh = pick (held .some) (counterIn (held .raw .body)) (freshOf fresh)
+
+-- "total 4,294,967,295 gives 6"
+abbrev pub spentBy : Bool → ℕ → ℕ → Next → Decision
+spentBy room credential before (next.Refused a) = refuse a
+spentBy room credential before (next.State s) = write room (counterRecord credential s) before
+
+-- "spend answers the tries before; 0 writes nothing"
+unfoldable pub spendFrom : CounterState → Bool → ℕ → Decision
+spendFrom s room credential = pick (eqb (remainingOf s) 0) (give 0) (spentBy room credential (remainingOf s) (failedOf s))
+
+abbrev pub spendDecision : OptRaw → Bool → ℕ → ℕ → Decision
+spendDecision held room credential current = spendFrom (startOf held current) room credential
+
+unfoldable pub spendOf : List ℕ → Log → Plan → ℕ → ℕ → Outcome
+spendOf image log plan credential current =
+    entered image log plan (isCredential credential)
+    (decided counterTag credential (λ (held : OptRaw) (room : Bool). spendDecision held room credential current))
+
+-- ---- set: "writes nothing if remaining is already that number; otherwise at-reset becomes total and the allowance that number (total 0 where no record is held)"
+unfoldable pub setDecision : OptRaw → Bool → ℕ → ℕ → Decision
+setDecision held room credential tries =
+    pick (held .some && eqb (remainingOf (startOf held tries)) tries) (give 0)
+    (write room (counterRecord credential (resetOf (startOf held tries) tries)) 0)
+
+unfoldable pub setOf : List ℕ → Log → Plan → ℕ → ℕ → Outcome
+setOf image log plan credential tries =
+    entered image log plan (isCredential credential)
+    (decided counterTag credential (λ (held : OptRaw) (room : Bool). setDecision held room credential tries))
+
+-- ---- advance_lamport: "takes the larger of held and seen, and adds 1 to it; overflow 6"
+abbrev pub lamportMax : ℕ
+lamportMax = 18_446_744_073_709_551_615
+
+abbrev pub seenOf : OptRaw → ℕ → ℕ
+seenOf held seen = pick (held .some) (max (valueIn (held .raw .body)) seen) seen
+
+unfoldable pub advanceFrom : ℕ → Bool → Decision
+advanceFrom most room = pick (eqb most lamportMax) (refuse WriteError) (write room (valueRecord lamport (most + 1)) (most + 1))
+
+abbrev pub advanceDecision : OptRaw → Bool → ℕ → Decision
+advanceDecision held room seen = advanceFrom (seenOf held seen) room
+
+unfoldable pub advanceOf : List ℕ → Log → Plan → ℕ → Outcome
+advanceOf image log plan seen =
+    entered image log plan true (decided valueTag lamport (λ (held : OptRaw) (room : Bool). advanceDecision held room seen))
+
+-- "Numbers returned", of each case
+abbrev pub leftNumber : Left → ℕ
+leftNumber (Refused a) = numberOf a
+leftNumber Nothing = 0
+leftNumber (Tries n) = 0
