@@ -23,13 +23,14 @@ use Rattle.fitting.specs.Fitting.{seqMax}
 use Rattle.deciding.specs.declared.Decision.{Decision}
 use Rattle.performing.specs.Outcomes.{Outcome}
 use Rattle.performing.specs.Performing.{performed, formatted}
+use Rattle.demands.specs.Chance.{Unmatched}
 use Rattle.demands.specs.Healthy.{Healthy}
 use Rattle.demands.specs.Shown.{Seen, seenBy, seen, Table, holding, tableIn, tableOf}
 use Rattle.demands.proofs.Tables.{proper-none, Writable}
 use Rattle.demands.proofs.Invariant.{Inv}
 use Rattle.demands.proofs.Endings.{Fails}
 use Rattle.demands.proofs.Reaching.{commit-used-idle}
-use Rattle.demands.proofs.Performing.{WakesUp, SafeCall, lasted, stopped, safe-weaker, seen-of, Unmatched, decidedTable, performed-safe, formatted-safe}
+use Rattle.demands.proofs.Performing.{WakesUp, SafeCall, lasted, stopped, safe-weaker, seen-of, decidedTable, performed-safe, formatted-safe}
 use Rattle.demands.proofs.Attaining.{Attains}
 use Rattle.demands.proofs.Succeeding.{Succeeds, performed-appends, formatted-succeeds}
 

@@ -15,3 +15,4 @@ pub mod First
 pub mod Tracing
 pub mod Wear
 pub mod Leaving
+pub mod Deciding

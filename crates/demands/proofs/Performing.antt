@@ -21,7 +21,7 @@ use Rattle.writing.specs.Commits.{Wrote, commitFirst}
 use Rattle.deciding.specs.declared.Decision.{Decision}
 use Rattle.performing.specs.Outcomes.{Outcome}
 use Rattle.performing.specs.Performing.{wroteOutcome, appended, performed, formatted}
-use Rattle.demands.specs.Chance.{ChanceMatch}
+use Rattle.demands.specs.Chance.{ChanceMatch, Unmatched}
 use Rattle.demands.specs.Shown.{Seen, seenBy, seen, Table, holding, tableIn, tableOf}
 use Rattle.demands.proofs.Tables.{Proper, Writable}
 use Rattle.demands.proofs.Invariant.{Agrees, Inv, inv-of}
@@ -90,12 +90,6 @@ wrote-safe n C P old new w value (Safe.stopped e c k) = stopped c e (λ d. go (k
         shown (inr a) = inr (ap tableIn (seen-of (u .state) (u .next) (u .t)) ∙ a)
 
 -- ---- what comes of a decision
--- no chance match of this record in the active sector
-abbrev pub Unmatched : State → Raw → Type 0
-Unmatched Unformatted r = Unit {0}
-Unmatched Failed r = Unit {0}
-Unmatched (Active sector seq head) r = ChanceMatch seq (slotOf seq r) → ⊥
-
 -- the table that a decision leads to
 abbrev pub decidedTable : Decision → Log → Table
 decidedTable d log = pick (d .write) (holding (joined (d .rec) (recordsOf log))) (tableOf log)

@@ -3,7 +3,10 @@ use mathlib.Core.Path.{_≡_}
 use mathlib.Core.List.{List, _++_}
 use Prim.Native.Nat.{ℕ, _-_, _≤_}
 use lib.ListN.{take, replicate}
-use Rattle.codec.specs.Slots.{crcUnder}
+use Rattle.codec.specs.declared.Raw.{Raw}
+use Rattle.codec.specs.Slots.{crcUnder, slotOf}
+use Rattle.records.specs.declared.State.{State}
+use Rattle.records.specs.declared.State.the-variants.{Unformatted, Failed, Active}
 
 -- "the slot's first k bytes followed by FF"
 abbrev pub cutAt : ℕ → List ℕ → List ℕ
@@ -16,3 +19,9 @@ pub record ChanceMatch (seq : ℕ) (slot : List ℕ) : Type 0 where
   pub high : k ≤ 11
   pub matches : crcUnder seq (take 12 (cutAt k slot)) ≡ 0xFFFF_FFFF
   pub differs : cutAt k slot ≡ slot → ⊥
+
+-- no chance match of this record in the active sector
+abbrev pub Unmatched : State → Raw → Type 0
+Unmatched Unformatted r = Unit {0}
+Unmatched Failed r = Unit {0}
+Unmatched (Active sector seq head) r = ChanceMatch seq (slotOf seq r) → ⊥

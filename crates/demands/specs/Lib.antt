@@ -2,3 +2,4 @@
 pub mod Chance
 pub mod Shown
 pub mod Healthy
+pub mod Typed

@@ -94,14 +94,7 @@ fn first_anchor(image: &mut [u8], log: Log, used: Used, sectors: usize, new: Anc
     requires { ⌜ Room (length (now image)) sectors log used × (log .state ≡ Unformatted) × (0 < sectors) × (used .programmed ≤ 0) × (used .erased ≤ 0) × (isFirst new ≡ true) ⌝ }
     ensures { λ r. ⌜ Shows (λ (cut : Bool). anchoredFirst new sectors (formatted [] sectors log (flashWith (now (image .entry)) used cut))) r (now (image .exit)) ⌝ }
 {
-    let f = performing::format_with(
-        image,
-        log,
-        used,
-        sectors,
-        records::empty_table(),
-        0,
-    );
+    let f = performing::format_with(image, log, used, sectors, records::empty_table(), 0);
     let answer = f.answer;
     if !basics::is_done(answer) {
         return f;
@@ -194,13 +187,7 @@ pub fn format(image: &mut [u8], log: Log, plan: Plan, seeds: [Seed; SEEDS], coun
     ensures { λ r. ⌜ Meets (formatOf (now (image .entry)) log plan seeds count) r (now (image .exit)) ⌝ }
 {
     let n = flash::sectors(image.len());
-    let e = reading::enter(
-        log,
-        n,
-        seeds_known(seeds, count),
-        ids::COUNTER_TAG,
-        0,
-    );
+    let e = reading::enter(log, n, seeds_known(seeds, count), ids::COUNTER_TAG, 0);
     let answer = e.answer;
     let state = log.state;
     let used = performing::unused(plan);

@@ -1,0 +1,193 @@
+-- What a call decides to write may be written: bytes with a tag, with room for its key, and no monotonic value below the one held.
+use mathlib.Core.Path.{_≡_, refl, sym, ap, ap₂, subst, _∙_}
+use mathlib.Core.Bool.{Bool, true, false, _&&_, and-false, false≢true}
+use mathlib.Core.List.{List, [], _∷_, _++_}
+use Prim.Native.Nat.{ℕ, zero, suc, _<_, _^_}
+use native.Mathlib.Omega.{arith}
+use lib.Dec.{eqb, ltb}
+use lib.ListN.{length, getD, take, List·getD-eq-default}
+use borrow.Author.Tests.{le-ltb, ltb-true, ltb-false}
+use Rattle.basics.specs.Choice.{pick}
+use Rattle.basics.specs.Answers.{isDone}
+use Rattle.basics.specs.Little.{leBytes, leNumber}
+use Rattle.basics.proofs.Choice.{by-test}
+use Rattle.basics.proofs.Lists.{bytes-cons, bytes-append, bytes-take}
+use Rattle.basics.proofs.Little.{le-bytes}
+use Rattle.ids.specs.declared.CounterState.{CounterState}
+use Rattle.ids.specs.declared.Anchor.{Anchor}
+use Rattle.ids.specs.Ids.{counterTag, valueTag, anchorTag, anchorSeqMax, isMonotonic}
+use Rattle.codec.specs.declared.Raw.{Raw}
+use Rattle.codec.specs.declared.OptRaw.{OptRaw}
+use Rattle.codec.specs.Slots.{noRaw, some}
+use Rattle.bodies.specs.Bodies.{counterBody, counterRecord, counterIn, valueBody, valueRecord, valueIn, anchorBody, anchorRecord, anchorIn}
+use Rattle.bodies.specs.declared.AnchorRecord.{AnchorRecord}
+use Rattle.bodies.proofs.RoundTrip.{value-read}
+use Rattle.records.specs.Table.{placeOf, holds, falls}
+use Rattle.records.proofs.Joining.{nowhere}
+use Rattle.fitting.proofs.Owned.{Whole}
+use Rattle.deciding.specs.declared.Decision.{Decision}
+use Rattle.deciding.specs.Decisions.{refuse, write, sameCounter, putDecision, valueDecision, sameAnchor, anchorWrite, anchorDecision}
+use Rattle.reading.specs.Entering.{heldOf, roomFor}
+use Rattle.reading.proofs.Entering.{held-at}
+use Rattle.demands.specs.Typed.{TypedCounter, TypedAnchor}
+use Rattle.demands.proofs.Tables.{Writable}
+
+-- ---- records of bytes
+counter-ten : (s : CounterState) → length (counterBody s) ≡ 10
+unfolding leBytes
+counter-ten s = refl
+
+pub counter-whole : (credential : ℕ) (s : CounterState) → credential < 256 → TypedCounter s → Whole (counterRecord credential s)
+counter-whole credential s h t = record {
+  tag-fits = omega arith;
+  id-fits = h;
+  ten = counter-ten s;
+  bytes =
+      bytes-cons (s .allowance) (0 ∷ (leBytes 4 (s .total) ++ leBytes 4 (s .«at_reset»))) (t .allowance)
+      (bytes-append (leBytes 4 (s .total)) (leBytes 4 (s .«at_reset»)) (le-bytes 4 (s .total) (t .total)) (le-bytes 4 (s .«at_reset») (t .at-reset)));
+}
+
+value-ten : (x : ℕ) → length (valueBody x) ≡ 10
+unfolding leBytes
+value-ten x = refl
+
+pub value-whole : (id x : ℕ) → id < 256 → x < 2 ^ 64 → Whole (valueRecord id x)
+value-whole id x h k = record { tag-fits = omega arith; id-fits = h; ten = value-ten x; bytes = le-bytes 8 x k }
+
+anchor-ten : (a : Anchor) → length (anchorBody a) ≡ 10
+unfolding leBytes
+anchor-ten a = refl
+
+-- the record of an anchor whose head_seq has 48 bits
+abbrev anchored : Anchor → Raw
+anchored a = record { tag = anchorTag; id = 0; body = anchorBody a }
+
+pub anchor-whole : (a : Anchor) → TypedAnchor a → Whole (anchored a)
+anchor-whole a t = record {
+  tag-fits = omega arith;
+  id-fits = omega arith;
+  ten = anchor-ten a;
+  bytes =
+      bytes-append (leBytes 2 (a .«format_gen»)) (take 6 (leBytes 8 (a .«head_seq»)) ++ leBytes 2 (a .«head_slot»)) (le-bytes 2 (a .«format_gen») (t .format-gen))
+      (bytes-append (take 6 (leBytes 8 (a .«head_seq»))) (leBytes 2 (a .«head_slot»)) (bytes-take 6 (leBytes 8 (a .«head_seq»)) (le-bytes 8 (a .«head_seq») (t .head-seq))) (le-bytes 2 (a .«head_slot») (t .head-slot)));
+}
+
+pub anchor-record : (a : Anchor) → isDone (anchorRecord a .answer) ≡ true → anchorRecord a .raw ≡ anchored a
+unfolding anchorRecord
+anchor-record a = by-test (λ (m : AnchorRecord). isDone (m .answer) ≡ true → m .raw ≡ anchored a) (ltb anchorSeqMax (a .«head_seq»)) _ _ (λ _ e. absurd (false≢true e)) (λ _ e. refl)
+
+-- an element that is there doesn't depend on the default
+same-there : (t : List Raw) (i : ℕ) → i < length t → getD t i nowhere ≡ getD t i noRaw
+same-there [] i h = absurd (omega arith)
+same-there (r ∷ t) zero h = refl
+same-there (r ∷ t) (suc i) h = same-there t i (omega arith)
+
+-- ---- what a decision writes
+-- this record, where there is room for it, and then Q holds
+abbrev pub Only : Bool → Raw → Type 0 → Decision → Type 0
+Only room r Q d = d .write ≡ true → (room ≡ true) × (d .rec ≡ r) × Q
+
+pub only-write : (room : Bool) (r : Raw) (Q : Type 0) (value : ℕ) → Q → Only room r Q (write room r value)
+only-write room r Q value q = by-test (Only room r Q) room _ _ (λ e h. (e, refl, q)) (λ e h. absurd (false≢true h))
+
+module _ (held : OptRaw) (room : Bool) where
+  pub put-only : (credential : ℕ) (new : CounterState) → Only room (counterRecord credential new) (Unit {0}) (putDecision held room credential new)
+  unfolding putDecision
+  put-only credential new =
+      by-test P (held .some) _ _
+      (λ _. by-test P (ltb (new .total) (counterIn (held .raw .body) .total)) _ _ (λ _ h. absurd (false≢true h))
+      (λ _. by-test P (sameCounter new (counterIn (held .raw .body))) _ _ (λ _ h. absurd (false≢true h)) (λ _. wrote)))
+      (λ _. wrote)
+    where
+      P : Decision → Type 0
+      P = Only room (counterRecord credential new) (Unit {0})
+
+      wrote : P (write room (counterRecord credential new) 0)
+      wrote = only-write room (counterRecord credential new) (Unit {0}) 0 tt
+
+  -- not below the value held: where none is held, 0
+  abbrev Rises : ℕ → ℕ → Type 0
+  Rises id new = (isMonotonic valueTag id && ltb new (valueIn (held .raw .body))) ≡ false
+
+  pub value-only : (id new : ℕ) → (held .some ≡ false → valueIn (held .raw .body) ≡ 0) → Only room (valueRecord id new) (Rises id new) (valueDecision held room id new)
+  unfolding valueDecision
+  value-only id new blank =
+      by-test P (held .some) _ _
+      (λ _. by-test P (isMonotonic valueTag id && ltb new (valueIn (held .raw .body))) _ _ (λ _ h. absurd (false≢true h))
+      (λ e. by-test P (eqb new (valueIn (held .raw .body))) _ _ (λ _ h. absurd (false≢true h)) (λ _. only-write room (valueRecord id new) (Rises id new) 0 e)))
+      (λ e. only-write room (valueRecord id new) (Rises id new) 0 (rw (blank e, le-ltb new 0 (omega arith), and-false)))
+    where
+      P : Decision → Type 0
+      P = Only room (valueRecord id new) (Rises id new)
+
+  pub anchor-only : (new : Anchor) → Only room (anchored new) (Unit {0}) (anchorDecision held room new)
+  unfolding anchorDecision anchorWrite
+  anchor-only new =
+      by-test P (held .some) _ _
+      (λ _. by-test P (sameAnchor new (anchorIn (held .raw .body))) _ _ (λ _ h. absurd (false≢true h))
+      (λ _. by-test P (eqb (new .«format_gen») (anchorIn (held .raw .body) .«format_gen») && ltb (new .«head_seq») (anchorIn (held .raw .body) .«head_seq»)) _ _ (λ _ h. absurd (false≢true h)) (λ _. wrote)))
+      (λ _. wrote)
+    where
+      P : Decision → Type 0
+      P = Only room (anchored new) (Unit {0})
+
+      wrote : P (pick (isDone (anchorRecord new .answer)) (write room (anchorRecord new .raw) 0) (refuse (anchorRecord new .answer)))
+      wrote =
+          by-test P (isDone (anchorRecord new .answer)) _ _
+          (λ e. subst (λ (r : Raw). P (write room r 0)) (sym (anchor-record new e)) (only-write room (anchored new) (Unit {0}) 0 tt))
+          (λ _ h. absurd (false≢true h))
+
+-- ---- and so may be written
+-- the value at a key's place is the value of the record held
+held-value : (tag id : ℕ) (t : List Raw) → valueIn (getD t (placeOf tag id t) nowhere .body) ≡ valueIn (heldOf tag id t .raw .body)
+unfolding leNumber
+held-value tag id t = go (ltb (placeOf tag id t) (length t)) refl ∙ ap (λ (o : OptRaw). valueIn (o .raw .body)) (held-at tag id t)
+  where
+    go : (b : Bool) → ltb (placeOf tag id t) (length t) ≡ b → valueIn (getD t (placeOf tag id t) nowhere .body) ≡ valueIn (getD t (placeOf tag id t) noRaw .body)
+    go true e = ap (λ (r : Raw). valueIn (r .body)) (same-there t (placeOf tag id t) (ltb-true (placeOf tag id t) (length t) e))
+    go false e =
+        let past = ltb-false (placeOf tag id t) (length t) e in
+        ap (λ (r : Raw). valueIn (r .body)) (List·getD-eq-default t nowhere past) ∙ sym (ap (λ (r : Raw). valueIn (r .body)) (List·getD-eq-default t noRaw past))
+
+-- counters and anchors don't fall
+steady : (r x : Raw) → isMonotonic (r .tag) (r .id) ≡ false → falls r x ≡ false
+unfolding falls
+steady r x e = rw e
+
+-- nothing is held, and so no value
+held-blank : (tag id : ℕ) (t : List Raw) → heldOf tag id t .some ≡ false → valueIn (heldOf tag id t .raw .body) ≡ 0
+unfolding heldOf leNumber
+held-blank tag id t = by-test (λ (o : OptRaw). o .some ≡ false → valueIn (o .raw .body) ≡ 0) (holds tag id t) _ _ (λ _ e. absurd (false≢true (sym e))) (λ _ e. refl)
+
+module _ (r : Raw) (w : Whole r) (tagged : r .tag ≡ 0xFF → ⊥) (t : List Raw) where
+  pub only-writable : (Q : Type 0) (d : Decision) → (Q → falls r (getD t (placeOf (r .tag) (r .id) t) nowhere) ≡ false) → Only (roomFor (r .tag) (r .id) t) r Q d → d .write ≡ true → Writable (d .rec) t
+  unfolding roomFor
+  only-writable Q d rises only e =
+      let o = only e in
+      subst (λ (x : Raw). Writable x t) (sym (o .1)) (record { whole = w; tagged = tagged; room = o .0; rises = rises (o .2) })
+
+-- what is decided on the record of a key, whatever the log holds
+abbrev pub Sound : ℕ → ℕ → (OptRaw → Bool → Decision) → Type 0
+Sound tag id decision = (t : List Raw) → decision (heldOf tag id t) (roomFor tag id t) .write ≡ true → Writable (decision (heldOf tag id t) (roomFor tag id t) .rec) t
+
+pub put-sound : (credential : ℕ) (new : CounterState) → credential < 256 → TypedCounter new → Sound counterTag credential (λ (held : OptRaw) (room : Bool). putDecision held room credential new)
+unfolding isMonotonic
+put-sound credential new h typed t =
+    only-writable (counterRecord credential new) (counter-whole credential new h typed) (λ e. omega arith) t (Unit {0}) (putDecision (heldOf counterTag credential t) (roomFor counterTag credential t) credential new)
+    (λ _. steady (counterRecord credential new) (getD t (placeOf counterTag credential t) nowhere) refl) (put-only (heldOf counterTag credential t) (roomFor counterTag credential t) credential new)
+
+-- a value that rises over the record held
+value-rises : (id new : ℕ) (t : List Raw) → Rises (heldOf valueTag id t) (roomFor valueTag id t) id new → falls (valueRecord id new) (getD t (placeOf valueTag id t) nowhere) ≡ false
+unfolding falls
+value-rises id new t e = ap₂ (λ (x y : ℕ). isMonotonic valueTag id && ltb x y) (value-read new) (held-value valueTag id t) ∙ e
+
+pub value-sound : (id new : ℕ) → id < 256 → new < 2 ^ 64 → Sound valueTag id (λ (held : OptRaw) (room : Bool). valueDecision held room id new)
+value-sound id new h k t =
+    only-writable (valueRecord id new) (value-whole id new h k) (λ e. omega arith) t (Rises (heldOf valueTag id t) (roomFor valueTag id t) id new) (valueDecision (heldOf valueTag id t) (roomFor valueTag id t) id new)
+    (value-rises id new t) (value-only (heldOf valueTag id t) (roomFor valueTag id t) id new (held-blank valueTag id t))
+
+pub anchor-sound : (new : Anchor) → TypedAnchor new → Sound anchorTag 0 (λ (held : OptRaw) (room : Bool). anchorDecision held room new)
+unfolding isMonotonic
+anchor-sound new typed t =
+    only-writable (anchored new) (anchor-whole new typed) (λ e. omega arith) t (Unit {0}) (anchorDecision (heldOf anchorTag 0 t) (roomFor anchorTag 0 t) new)
+    (λ _. steady (anchored new) (getD t (placeOf anchorTag 0 t) nowhere) refl) (anchor-only (heldOf anchorTag 0 t) (roomFor anchorTag 0 t) new)

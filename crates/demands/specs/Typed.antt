@@ -1,0 +1,14 @@
+-- The values that arguments can have: a u8 is below 256, and so on. Nothing more is asked of the arguments of a call.
+use Prim.Native.Nat.{_<_, _^_}
+use Rattle.ids.specs.declared.CounterState.{CounterState}
+use Rattle.ids.specs.declared.Anchor.{Anchor}
+
+pub record TypedCounter (s : CounterState) : Type 0 where
+  pub total : s .total < 2 ^ 32
+  pub at-reset : s .«at_reset» < 2 ^ 32
+  pub allowance : s .allowance < 256
+
+pub record TypedAnchor (a : Anchor) : Type 0 where
+  pub format-gen : a .«format_gen» < 2 ^ 16
+  pub head-seq : a .«head_seq» < 2 ^ 64
+  pub head-slot : a .«head_slot» < 2 ^ 16
