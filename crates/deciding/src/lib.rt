@@ -148,3 +148,4 @@ pub fn anchor_decision(held: OptRaw, room: bool, new: Anchor) -> Decision
     }
     written
 }
+

@@ -1,2 +1,3 @@
 -- Laws of the calls.
 pub mod Anchoring
+pub mod Formatting

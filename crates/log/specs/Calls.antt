@@ -1,16 +1,14 @@
 -- "Writing": the calls that can write, each as its tests, its decision, and what comes of it.
 use mathlib.Core.Bool.{Bool, true, _&&_}
-use mathlib.Core.List.{List, [], _∷_}
+use mathlib.Core.List.{List, []}
 use Prim.Native.Nat.{ℕ}
-use lib.Dec.{eqb, leb}
-use lib.ListN.{take}
+use lib.Dec.{eqb}
 use Rattle.basics.specs.Choice.{pick}
 use Rattle.basics.specs.Answers.{isDone}
 use Rattle.basics.specs.declared.Answer.the-variants.{NotFormatted, ReadError, WriteError}
 use Rattle.ids.specs.declared.CounterState.{CounterState}
 use Rattle.ids.specs.declared.Anchor.{Anchor}
 use Rattle.ids.specs.Ids.{counterTag, valueTag, anchorTag, isCredential, isValue}
-use Rattle.bodies.specs.Bodies.{counterRecord}
 use Rattle.codec.specs.declared.Raw.{Raw}
 use Rattle.codec.specs.declared.OptRaw.{OptRaw}
 use Rattle.flash.specs.declared.Plan.{Plan}
@@ -18,11 +16,11 @@ use Rattle.flash.specs.Run.{Flash}
 use Rattle.records.specs.declared.State.{State}
 use Rattle.records.specs.declared.State.the-variants.{Unformatted, Failed, Active}
 use Rattle.records.specs.declared.Log.{Log}
-use Rattle.records.specs.Table.{joined}
 use Rattle.deciding.specs.Decisions.{putDecision, valueDecision, anchorDecision}
 use Rattle.performing.specs.Outcomes.{Outcome, refused, entered}
 use Rattle.performing.specs.Performing.{decided, formatted}
-use Rattle.log.specs.declared.Seed.{Seed}
+use Rattle.seeding.specs.declared.Seed.{Seed}
+use Rattle.seeding.specs.Seeds.{seedsKnown, seedTable}
 
 -- ---- put and put_value
 unfoldable pub putOf : List ℕ → Log → Plan → ℕ → CounterState → Outcome
@@ -53,23 +51,13 @@ anchored (Active sector seq head) a n log f = anchorCall a n log f
 unfoldable pub putAnchorOf : List ℕ → Log → Plan → Anchor → Outcome
 putAnchorOf image log plan a = entered image log plan true (λ (n : ℕ) (l : Log) (f : Flash). anchored (l .state) a n l f)
 
--- ---- format: "a repeated credential keeps its place and takes the last state; places past the count are not looked at"
-unfoldable pub seeded : List Seed → List Raw → List Raw
-seeded [] t = t
-seeded (s ∷ seeds) t = seeded seeds (joined (counterRecord (s .credential) (s .state)) t)
-
-unfoldable pub seedsKnown : List Seed → Bool
-seedsKnown [] = true
-seedsKnown (s ∷ seeds) = isCredential (s .credential) && seedsKnown seeds
-
+-- ---- format
 -- "format on a log that isn't Unformatted: 6"
 abbrev pub formatOn : State → List Raw → ℕ → Log → Flash → Outcome
 formatOn Unformatted t n log f = formatted t n log f
 formatOn Failed t n log f = refused WriteError log f
 formatOn (Active sector seq head) t n log f = refused WriteError log f
 
--- "seed count above 8"
 unfoldable pub formatOf : List ℕ → Log → Plan → List Seed → ℕ → Outcome
 formatOf image log plan seeds count =
-    entered image log plan (leb count 8 && seedsKnown (take count seeds))
-    (λ (n : ℕ) (l : Log) (f : Flash). formatOn (l .state) (seeded (take count seeds) []) n l f)
+    entered image log plan (seedsKnown seeds count) (λ (n : ℕ) (l : Log) (f : Flash). formatOn (l .state) (seedTable seeds count) n l f)

@@ -7,38 +7,23 @@ use ids::Anchor;
 use ids::CounterState;
 use performing::Done;
 use reading::Entry;
-use records::LIMIT;
 use records::Log;
 use records::State;
+use seeding::SEEDS;
+use seeding::Seed;
 use writing::Used;
 ghost use mathlib.Core.Path.{_≡_};
-ghost use mathlib.Core.Bool.{Bool, true, _&&_};
+ghost use mathlib.Core.Bool.{Bool, true};
 ghost use mathlib.Core.List.{[]};
 ghost use Prim.Native.Nat.{_≤_, _<_};
-ghost use lib.Dec.{leb};
-ghost use lib.ListN.{length, take};
+ghost use lib.ListN.{length};
 ghost use Rattle.records.specs.declared.State.the-variants.{Unformatted};
 ghost use Rattle.writing.specs.Shown.{flashWith};
 ghost use Rattle.performing.specs.Outcomes.{Meets};
 ghost use Rattle.performing.specs.Performing.{formatted};
 ghost use Rattle.performing.specs.Steps.{Shows, Room};
-ghost use Rattle.log.specs.Calls.{putOf, putValueOf, isFirst, anchoredFirst, putAnchorOf, seedsKnown, formatOf};
-ghost use Rattle.log.specs.Steps.{opensLog, seededOf};
-
-// The most seeds that a format takes.
-const SEEDS: usize = 8;
-
-// A credential and its counter, to format with.
-pub struct Seed {
-    pub credential: u8,
-    pub state: CounterState,
-}
-
-// The table that seeds make.
-pub struct Seeded {
-    pub count: usize,
-    pub table: [Raw; LIMIT],
-}
+ghost use Rattle.log.specs.Calls.{putOf, putValueOf, isFirst, anchoredFirst, putAnchorOf, formatOf};
+ghost use Rattle.log.specs.Steps.{opensLog};
 
 pub fn put(image: &mut [u8], log: Log, plan: Plan, credential: u8, new: CounterState) -> Done
     ensures { λ r. ⌜ Meets (putOf (now (image .entry)) log plan credential new) r (now (image .exit)) ⌝ }
@@ -94,7 +79,14 @@ fn first_anchor(image: &mut [u8], log: Log, used: Used, sectors: usize, new: Anc
     requires { ⌜ Room (length (now image)) sectors log used × (log .state ≡ Unformatted) × (0 < sectors) × (used .programmed ≤ 0) × (used .erased ≤ 0) × (isFirst new ≡ true) ⌝ }
     ensures { λ r. ⌜ Shows (λ (cut : Bool). anchoredFirst new sectors (formatted [] sectors log (flashWith (now (image .entry)) used cut))) r (now (image .exit)) ⌝ }
 {
-    let f = performing::format_with(image, log, used, sectors, records::empty_table(), 0);
+    let f = performing::format_with(
+        image,
+        log,
+        used,
+        sectors,
+        records::empty_table(),
+        0,
+    );
     let answer = f.answer;
     if !basics::is_done(answer) {
         return f;
@@ -137,57 +129,17 @@ pub fn put_anchor(image: &mut [u8], log: Log, plan: Plan, new: Anchor) -> Done
     performing::perform(image, log, used, n, e, d)
 }
 
-// Whether there are at most eight seeds, and all of known credentials.
-fn seeds_known(seeds: [Seed; SEEDS], count: usize) -> bool
-    ensures { λ r. ⌜ r ≡ (leb count 8 && seedsKnown (take count seeds)) ⌝ }
-{
-    if SEEDS < count {
-        return false;
-    }
-    let mut i: usize = 0;
-    while i < count {
-        let s = seeds[i];
-        if !ids::is_credential(s.credential) {
-            return false;
-        }
-        i += 1;
-    }
-    true
-}
-
-// The table of the first `count` seeds.
-fn seed_table(seeds: [Seed; SEEDS], count: usize) -> Seeded
-    requires { ⌜ count ≤ 8 ⌝ }
-    ensures { λ r. ⌜ r ≡ seededOf (take count seeds) ⌝ }
-{
-    let mut table = records::empty_table();
-    let mut tags = [0u8; LIMIT];
-    let mut ids = [0u8; LIMIT];
-    let mut n: usize = 0;
-    let mut i: usize = 0;
-    while i < count {
-        let s = seeds[i];
-        let c = s.state;
-        let at = records::find(&tags, &ids, n, ids::COUNTER_TAG, s.credential);
-        table[at] = bodies::counter_record(s.credential, c);
-        tags[at] = ids::COUNTER_TAG;
-        ids[at] = s.credential;
-        if at == n {
-            n += 1;
-        }
-        i += 1;
-    }
-    Seeded {
-        count: n,
-        table: table,
-    }
-}
-
 pub fn format(image: &mut [u8], log: Log, plan: Plan, seeds: [Seed; SEEDS], count: usize) -> Done
     ensures { λ r. ⌜ Meets (formatOf (now (image .entry)) log plan seeds count) r (now (image .exit)) ⌝ }
 {
     let n = flash::sectors(image.len());
-    let e = reading::enter(log, n, seeds_known(seeds, count), ids::COUNTER_TAG, 0);
+    let e = reading::enter(
+        log,
+        n,
+        seeding::seeds_known(seeds, count),
+        ids::COUNTER_TAG,
+        0,
+    );
     let answer = e.answer;
     let state = log.state;
     let used = performing::unused(plan);
@@ -196,7 +148,7 @@ pub fn format(image: &mut [u8], log: Log, plan: Plan, seeds: [Seed; SEEDS], coun
     }
     match state {
         State::Unformatted => {
-            let t = seed_table(seeds, count);
+            let t = seeding::seed_table(seeds, count);
             let table = t.table;
             performing::format_with(image, log, used, n, table, t.count)
         }

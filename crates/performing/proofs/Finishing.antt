@@ -1,58 +1,22 @@
--- A record stored at the place of its key makes the new table; and what was written, shown with that table, is the outcome.
-use mathlib.Core.Path.{_≡_, refl, sym, ap, ap₂, _∙_}
+-- What was written, shown with the new table or the old, is the outcome.
+use mathlib.Core.Path.{_≡_, ap, ap₂, _∙_}
 use mathlib.Core.Bool.{Bool, true, false}
-use mathlib.Core.List.{List, [], _∷_, _++_}
-use Prim.Native.Nat.{ℕ, _+_, _≤_, _<_}
-use native.Mathlib.Omega.{arith}
-use lib.Dec.{eqb}
-use lib.ListN.{length, set, take, length-set, length-append}
-use borrow.Author.Tests.{eqb-true, eqb-false}
+use mathlib.Core.List.{List}
+use Prim.Native.Nat.{ℕ}
+use lib.ListN.{length}
 use Rattle.basics.specs.Choice.{pick}
 use Rattle.basics.specs.Answers.{isDone}
-use Rattle.basics.proofs.Choice.{by-test}
 use Rattle.codec.specs.declared.Raw.{Raw}
 use Rattle.records.specs.declared.Log.{Log}
-use Rattle.records.specs.Table.{limit, placeOf, joined}
 use Rattle.records.specs.Logs.{places, logOf}
-use Rattle.records.proofs.Finding.{place-most}
-use Rattle.records.proofs.Joining.{join-held, join-new}
-use Rattle.records.proofs.Places.{places-set, places-add}
 use Rattle.writing.specs.declared.Wrote as code
 use Rattle.writing.specs.Commits.{Wrote}
-use Rattle.writing.specs.Shown.{usedOf, Writing}
+use Rattle.writing.specs.Shown.{usedOf}
 use Rattle.performing.specs.declared.Done.{Done}
 use Rattle.performing.specs.Outcomes.{doneOf}
 use Rattle.performing.specs.Performing.{wroteOutcome}
-use Rattle.performing.specs.Steps.{newCount, finishedOf}
+use Rattle.performing.specs.Steps.{finishedOf}
 
--- ---- the new table
-module _ (r : Raw) (t : List Raw) where
-  abbrev at : ℕ
-  at = placeOf (r .tag) (r .id) t
-
-  -- its places and its count
-  pub stored : at < limit → (set (places t) at r ≡ places (joined r t)) × (newCount (length t) at ≡ length (joined r t))
-  stored free = go (eqb at (length t)) refl
-    where
-      most : placeOf (r .tag) (r .id) t ≤ length t
-      most = place-most (r .tag) (r .id) t
-
-      go : (b : Bool) → eqb (placeOf (r .tag) (r .id) t) (length t) ≡ b
-          → (set (places t) (placeOf (r .tag) (r .id) t) r ≡ places (joined r t)) × (pick b (length t + 1) (length t) ≡ length (joined r t))
-      go true e =
-          let new = eqb-true (placeOf (r .tag) (r .id) t) (length t) e in
-          let j = join-new r t new in
-          (ap (λ (k : ℕ). set (places t) k r) new ∙ places-add t r (omega (arith, free, new)) ∙ ap places (sym j), sym (ap length j ∙ length-append t (r ∷ [])))
-      go false e =
-          let other = eqb-false (placeOf (r .tag) (r .id) t) (length t) e in
-          let h : placeOf (r .tag) (r .id) t < length t = omega (arith, other, most) in
-          let j = join-held r t h in
-          (places-set t (placeOf (r .tag) (r .id) t) r h ∙ ap places (sym j), sym (ap length j ∙ length-set t (placeOf (r .tag) (r .id) t) r))
-
-pub new-most : (count at : ℕ) → count ≤ limit → at < limit → newCount count at ≤ limit
-new-most count at few free = by-test (λ (n : ℕ). n ≤ limit) (eqb at count) (count + 1) count (λ e. omega (arith, eqb-true at count e, free)) (λ e. few)
-
--- ---- the outcome
 module _ (o : Wrote) (w : code.Wrote) (value : ℕ) (log : Log) (new old : List Raw) (table : List Raw) (count : ℕ) where
   -- what was written, with these places and this count
   abbrev with : ℕ → List Raw → Done

@@ -2,8 +2,7 @@
 use mathlib.Core.Path.{_≡_}
 use mathlib.Core.Bool.{Bool, true}
 use mathlib.Core.List.{List}
-use Prim.Native.Nat.{ℕ, _+_, _*_, _≤_, _<_}
-use lib.Dec.{eqb}
+use Prim.Native.Nat.{ℕ, _*_, _≤_, _<_}
 use lib.ListN.{length, take}
 use Rattle.basics.specs.Choice.{pick}
 use Rattle.basics.specs.Answers.{isDone}
@@ -31,10 +30,6 @@ Shows o r image = (cut : Bool) → Meets (o cut) r image
 abbrev pub answeredOf : Answer → ℕ → Log → Used → Done
 answeredOf answer value log used =
     record { answer = answer; value = value; programmed = used .programmed; erased = used .erased; plan = used .plan; log = log }
-
--- one record more where the key's place is the count
-abbrev pub newCount : ℕ → ℕ → ℕ
-newCount count at = pick (eqb at count) (count + 1) count
 
 -- what was written becomes the log: the new table where it is done, else the old
 unfoldable pub finishedOf : Wrote → ℕ → Log → List Raw → ℕ → Done

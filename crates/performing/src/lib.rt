@@ -17,7 +17,7 @@ ghost use lib.ListN.{length, take};
 ghost use Rattle.records.specs.declared.State.the-variants.{Unformatted, Active};
 ghost use Rattle.writing.specs.Shown.{flashWith};
 ghost use Rattle.performing.specs.Performing.{appended, formatted};
-ghost use Rattle.performing.specs.Steps.{Shows, answeredOf, newCount, finishedOf, Room, Placed, Filled, Ready, performedOn};
+ghost use Rattle.performing.specs.Steps.{Shows, answeredOf, finishedOf, Room, Placed, Filled, Ready, performedOn};
 
 // What a call on an image answers, and the log and plan that it hands back.
 pub struct Done {
@@ -53,13 +53,6 @@ pub fn answered(answer: Answer, value: u64, log: Log, used: Used) -> Done
         plan: plan,
         log: log,
     }
-}
-
-fn new_count(count: usize, at: usize) -> usize
-    requires { ⌜ count ≤ 32 ⌝ }
-    ensures { λ r. ⌜ r ≡ newCount count at ⌝ }
-{
-    if at == count { count + 1 } else { count }
 }
 
 // What was written becomes the log.
@@ -119,7 +112,7 @@ fn write_record(
     requires { ⌜ Room (length (now image)) sectors log used × (log .state ≡ Active sector seq head) × Placed log at rec ⌝ }
     ensures { λ r. ⌜ Shows (λ (cut : Bool). appended (Active sector seq head) sectors rec value log (flashWith (now (image .entry)) used cut)) r (now (image .exit)) ⌝ }
 {
-    let count = new_count(log.count, at);
+    let count = records::new_count(log.count, at);
     let mut table = log.table;
     table[at] = rec;
     let w = writing::append(

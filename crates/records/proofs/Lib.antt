@@ -3,3 +3,4 @@ pub mod Finding
 pub mod Joining
 pub mod Places
 pub mod Keys
+pub mod Storing

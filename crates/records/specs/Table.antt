@@ -1,7 +1,7 @@
 -- The table of records: one a key, in the order in which the keys came.
 use mathlib.Core.Bool.{Bool, false, _&&_, _||_}
 use mathlib.Core.List.{List, [], _∷_}
-use Prim.Native.Nat.{ℕ, suc}
+use Prim.Native.Nat.{ℕ, suc, _+_}
 use lib.Dec.{eqb, ltb}
 use lib.ListN.{length}
 use Rattle.basics.specs.Choice.{pick}
@@ -52,3 +52,7 @@ absorbed r (e ∷ es) = pick (sameKey e r) (pick (falls r e) (e ∷ es) (r ∷ e
 -- a key that is held, or room for one more: a 33rd key has none
 abbrev pub hasRoom : ℕ → Raw → List Raw → Bool
 hasRoom most r t = holds (r .tag) (r .id) t || ltb (length t) most
+
+-- one record more where the key's place is the count
+abbrev pub newCount : ℕ → ℕ → ℕ
+newCount count at = pick (eqb at count) (count + 1) count

@@ -6,7 +6,7 @@ ghost use mathlib.Core.List.{[]};
 ghost use Prim.Native.Nat.{_≤_};
 ghost use lib.ListN.{length, take};
 ghost use Rattle.records.specs.Logs.{places, logOf};
-ghost use Rattle.records.specs.Table.{falls, keyPlace};
+ghost use Rattle.records.specs.Table.{limit, falls, keyPlace, newCount};
 
 // The most records that a log holds.
 pub const LIMIT: usize = 32;
@@ -71,4 +71,12 @@ pub fn replaces(new: Raw, held: Raw) -> bool
     } else {
         true
     }
+}
+
+// The count after a record is stored at a place: one more where the place is the first that is free.
+pub fn new_count(count: usize, at: usize) -> usize
+    requires { ⌜ count ≤ limit ⌝ }
+    ensures { λ r. ⌜ r ≡ newCount count at ⌝ }
+{
+    if at == count { count + 1 } else { count }
 }

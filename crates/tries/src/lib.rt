@@ -87,11 +87,7 @@ fn spend_from(s: CounterState, room: bool, credential: u8) -> Decision
     }
     match s.after_failure() {
         Next::Refused(answer) => deciding::refuses(answer),
-        Next::State(new) => deciding::writes(
-            room,
-            bodies::counter_record(credential, new),
-            before as u64,
-        ),
+        Next::State(new) => deciding::writes(room, bodies::counter_record(credential, new), before as u64),
     }
 }
 

@@ -7,16 +7,16 @@ use native.Mathlib.Omega.{arith}
 use lib.ListN.{length, set, take}
 use Rattle.codec.specs.declared.Raw.{Raw}
 use Rattle.records.specs.declared.Log.{Log}
-use Rattle.records.specs.Table.{limit, placeOf, joined}
+use Rattle.records.specs.Table.{limit, placeOf, joined, newCount}
 use Rattle.records.specs.Logs.{places, recordsOf}
 use Rattle.records.proofs.Places.{places-take}
+use Rattle.records.proofs.Storing.{stored, new-most}
 use Rattle.fitting.proofs.Owned.{whole-log}
 use Rattle.fitting.proofs.Laws.{fits-clauses, fits-active, records-length, log-is}
 use Rattle.writing.specs.Commits.{Wrote}
 use Rattle.writing.specs.Appends.{appendOf}
 use Rattle.writing.specs.Shown.{flashWith, Writing}
-use Rattle.performing.specs.Steps.{newCount}
-use Rattle.performing.proofs.Finishing.{stored, new-most, finished}
+use Rattle.performing.proofs.Finishing.{finished}
 use borrow.Author.Needs.{needs}
 use Rattle.performing.proofs.write_record.Statement.{statement}
 use Rattle.performing.proofs.write_record.Tie as tie
@@ -62,7 +62,8 @@ append-requires c κs =
     let s = n .before .before in
     let a = s .args in
     let room = s .pre .0 in
-    let active = fits-active (a .sectors) (a .log) (room .fits) (a .sector) (a .seq) (a .head) (s .pre .1) in (
+    let active = fits-active (a .sectors) (a .log) (room .fits) (a .sector) (a .seq) (a .head) (s .pre .1) in
+    (
       rw (n .new-count .ensures) (new-most (a .log .count) (a .at) (fits-clauses (a .sectors) (a .log) (room .fits) .few) (s .pre .2 .free)),
       room .few,
       room .sized,
@@ -90,8 +91,8 @@ returns c = λ cut.
     let shown = subst (λ (t : List Raw). Writing (wrote t) (p .append .result) (p .append .last .0)) records (p .append .ensures cut) in
     record {
       answered =
-          c .finish .ensures
-          ∙ finished (wrote (after s)) (p .append .result) (a .value) (a .log) (after s) (before s) (set (a .log .table) (a .at) (a .rec)) (n .new-count .result) (shown .shown) (new-table s) count (tabled s) (counted s);
+        c .finish .ensures
+        ∙ finished (wrote (after s)) (p .append .result) (a .value) (a .log) (after s) (before s) (set (a .log .table) (a .at) (a .rec)) (n .new-count .result) (shown .shown) (new-table s) count (tabled s) (counted s);
       left = shown .left;
     }
 

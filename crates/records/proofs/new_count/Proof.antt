@@ -1,8 +1,8 @@
--- `performing::new_count` meets its contract.
+-- `records::new_count` meets its contract.
 use borrow.Author.Needs.{needs}
 use borrow.Author.Tests.{eq-eqb, ne-eqb}
-use Rattle.performing.proofs.new_count.Statement.{statement}
-use Rattle.performing.proofs.new_count.Tie as tie
+use Rattle.records.proofs.new_count.Statement.{statement}
+use Rattle.records.proofs.new_count.Tie as tie
 
 add-result : tie.Need-add-result
 add-result c = search needs

@@ -1,0 +1,2 @@
+-- The seeds of a format.
+pub mod Seeds
