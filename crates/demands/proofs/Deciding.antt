@@ -30,7 +30,7 @@ use Rattle.deciding.specs.Decisions.{refuse, write, sameCounter, putDecision, v
 use Rattle.reading.specs.Entering.{heldOf, roomFor}
 use Rattle.reading.proofs.Entering.{held-at}
 use Rattle.demands.specs.Typed.{TypedCounter, TypedAnchor}
-use Rattle.demands.proofs.Tables.{Writable}
+use Rattle.demands.proofs.Performing.{Writes}
 
 -- ---- records of bytes
 counter-ten : (s : CounterState) → length (counterBody s) ≡ 10
@@ -160,17 +160,17 @@ unfolding heldOf leNumber
 held-blank tag id t = by-test (λ (o : OptRaw). o .some ≡ false → valueIn (o .raw .body) ≡ 0) (holds tag id t) _ _ (λ _ e. absurd (false≢true (sym e))) (λ _ e. refl)
 
 module _ (r : Raw) (w : Whole r) (tagged : r .tag ≡ 0xFF → ⊥) (t : List Raw) where
-  pub only-writable : (Q : Type 0) (d : Decision) → (Q → falls r (getD t (placeOf (r .tag) (r .id) t) nowhere) ≡ false) → Only (roomFor (r .tag) (r .id) t) r Q d → d .write ≡ true → Writable (d .rec) t
+  pub only-writable : (Q : Type 0) (d : Decision) → (Q → falls r (getD t (placeOf (r .tag) (r .id) t) nowhere) ≡ false) → Only (roomFor (r .tag) (r .id) t) r Q d → d .write ≡ true → Writes d r t
   unfolding roomFor
   only-writable Q d rises only e =
       let o = only e in
-      subst (λ (x : Raw). Writable x t) (sym (o .1)) (record { whole = w; tagged = tagged; room = o .0; rises = rises (o .2) })
+      record { rec-is = o .1; may = record { whole = w; tagged = tagged; room = o .0; rises = rises (o .2) } }
 
--- what is decided on the record of a key, whatever the log holds
-abbrev pub Sound : ℕ → ℕ → (OptRaw → Bool → Decision) → Type 0
-Sound tag id decision = (t : List Raw) → decision (heldOf tag id t) (roomFor tag id t) .write ≡ true → Writable (decision (heldOf tag id t) (roomFor tag id t) .rec) t
+-- what is decided on the record of a key writes this record, whatever the log holds
+abbrev pub Sound : ℕ → ℕ → (OptRaw → Bool → Decision) → (List Raw → Raw) → Type 0
+Sound tag id decision r = (t : List Raw) → decision (heldOf tag id t) (roomFor tag id t) .write ≡ true → Writes (decision (heldOf tag id t) (roomFor tag id t)) (r t) t
 
-pub put-sound : (credential : ℕ) (new : CounterState) → credential < 256 → TypedCounter new → Sound counterTag credential (λ (held : OptRaw) (room : Bool). putDecision held room credential new)
+pub put-sound : (credential : ℕ) (new : CounterState) → credential < 256 → TypedCounter new → Sound counterTag credential (λ (held : OptRaw) (room : Bool). putDecision held room credential new) (λ t. counterRecord credential new)
 unfolding isMonotonic
 put-sound credential new h typed t =
     only-writable (counterRecord credential new) (counter-whole credential new h typed) (λ e. omega arith) t (Unit {0}) (putDecision (heldOf counterTag credential t) (roomFor counterTag credential t) credential new)
@@ -181,12 +181,12 @@ value-rises : (id new : ℕ) (t : List Raw) → Rises (heldOf valueTag id t) (ro
 unfolding falls
 value-rises id new t e = ap₂ (λ (x y : ℕ). isMonotonic valueTag id && ltb x y) (value-read new) (held-value valueTag id t) ∙ e
 
-pub value-sound : (id new : ℕ) → id < 256 → new < 2 ^ 64 → Sound valueTag id (λ (held : OptRaw) (room : Bool). valueDecision held room id new)
+pub value-sound : (id new : ℕ) → id < 256 → new < 2 ^ 64 → Sound valueTag id (λ (held : OptRaw) (room : Bool). valueDecision held room id new) (λ t. valueRecord id new)
 value-sound id new h k t =
     only-writable (valueRecord id new) (value-whole id new h k) (λ e. omega arith) t (Rises (heldOf valueTag id t) (roomFor valueTag id t) id new) (valueDecision (heldOf valueTag id t) (roomFor valueTag id t) id new)
     (value-rises id new t) (value-only (heldOf valueTag id t) (roomFor valueTag id t) id new (held-blank valueTag id t))
 
-pub anchor-sound : (new : Anchor) → TypedAnchor new → Sound anchorTag 0 (λ (held : OptRaw) (room : Bool). anchorDecision held room new)
+pub anchor-sound : (new : Anchor) → TypedAnchor new → Sound anchorTag 0 (λ (held : OptRaw) (room : Bool). anchorDecision held room new) (λ t. anchored new)
 unfolding isMonotonic
 anchor-sound new typed t =
     only-writable (anchored new) (anchor-whole new typed) (λ e. omega arith) t (Unit {0}) (anchorDecision (heldOf anchorTag 0 t) (roomFor anchorTag 0 t) new)

@@ -63,13 +63,14 @@ module _ (decide : Log → Decision) (sound : (l : Log) → decide l .write ≡ 
     then-safe : (o : Outcome) → SafeCall n (Unit {0}) (λ z. z ≡ seen log) (holding []) o → SafeCall n (Unmatched (o .log .state) r) OrEmpty (holding (joined r [])) (formatThen decide n o)
     then-safe o (lasted c z i (inl d)) =
         let l = o .log in
-        let safe = performed-safe (o .flash) l c i (decide l) (sound l) in
+        let writes = decides l (d .1) in
+        let safe = performed-safe (o .flash) l c i (decide l) r (λ e. record { rec-is = writes .1; may = subst (λ (x : Raw). Writable x (recordsOf l)) (writes .1) (sound l e) }) in
         let here =
-        subst (λ (m : ℕ). SafeCall m (Unmatched (l .state) (decide l .rec)) (λ x. x ≡ seen l) (decidedTable (decide l) l) (performed (decide l) m l (o .flash))) z safe in
-        let there = subst (λ (t : Table). SafeCall n (Unmatched (l .state) (decide l .rec)) (λ x. x ≡ seen l) t (performed (decide l) n l (o .flash))) (decided-table l (d .1)) here in
+        subst (λ (m : ℕ). SafeCall m (Unmatched (l .state) r) (λ x. x ≡ seen l) (decidedTable (decide l) l) (performed (decide l) m l (o .flash))) z safe in
+        let there = subst (λ (t : Table). SafeCall n (Unmatched (l .state) r) (λ x. x ≡ seen l) t (performed (decide l) n l (o .flash))) (decided-table l (d .1)) here in
         rw (d .0)
-        (safe-weaker n (Unmatched (l .state) (decide l .rec)) (Unmatched (l .state) r) (λ x. x ≡ seen l) OrEmpty (holding (joined r [])) (performed (decide l) n l (o .flash))
-        (subst (Unmatched (l .state)) (sym (decides l (d .1) .1))) (λ x e. inr (ap tableIn e ∙ d .1)) there)
+        (safe-weaker n (Unmatched (l .state) r) (Unmatched (l .state) r) (λ x. x ≡ seen l) OrEmpty (holding (joined r [])) (performed (decide l) n l (o .flash))
+        (λ u. u) (λ x e. inr (ap tableIn e ∙ d .1)) there)
     then-safe o (lasted c z i (inr d)) = rw (d .0) (lasted c z i (inr (d .0, inl (d .1))))
     then-safe o (stopped c e k) = rw e (stopped c e (λ _. go (k tt)))
       where

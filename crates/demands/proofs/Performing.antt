@@ -90,6 +90,14 @@ wrote-safe n C P old new w value (Safe.stopped e c k) = stopped c e (λ d. go (k
         shown (inr a) = inr (ap tableIn (seen-of (u .state) (u .next) (u .t)) ∙ a)
 
 -- ---- what comes of a decision
+-- where a decision writes, it writes r, which may be written
+pub record Writes (d : Decision) (r : Raw) (t : List Raw) : Type 0 where
+  pub rec-is : d .rec ≡ r
+  pub may : Writable r t
+
+pub writes-writable : (d : Decision) (r : Raw) (t : List Raw) → Writes d r t → Writable (d .rec) t
+writes-writable d r t w = subst (λ (x : Raw). Writable x t) (sym (w .rec-is)) (w .may)
+
 -- the table that a decision leads to
 abbrev pub decidedTable : Decision → Log → Table
 decidedTable d log = pick (d .write) (holding (joined (d .rec) (recordsOf log))) (tableOf log)
@@ -110,15 +118,17 @@ module _ (f : Flash) (log : Log) (on : f .cut ≡ false) (i : Inv (f .image) log
       wrote-safe n (ChanceMatch seq (slotOf seq r) → ⊥) Same (recordsOf log) (joined r (recordsOf log)) _ value
       (append-safe n s seq r (recordsOf log) w (log .«next_seq») Same before head f on here)
 
-  pub performed-safe : (d : Decision) → (d .write ≡ true → Writable (d .rec) (recordsOf log)) → SafeCall n (Unmatched (log .state) (d .rec)) Same (decidedTable d log) (performed d n log f)
+  pub performed-safe : (d : Decision) (r : Raw) → (d .write ≡ true → Writes d r (recordsOf log)) → SafeCall n (Unmatched (log .state) r) Same (decidedTable d log) (performed d n log f)
   unfolding performed
-  performed-safe d sound = go (d .write) refl
+  performed-safe d r sound = go (d .write) refl
     where
       go : (b : Bool) → d .write ≡ b
-          → SafeCall n (Unmatched (log .state) (d .rec)) Same (pick b (holding (joined (d .rec) (recordsOf log))) (tableOf log))
+          → SafeCall n (Unmatched (log .state) r) Same (pick b (holding (joined (d .rec) (recordsOf log))) (tableOf log))
           (pick b (appended (log .state) n (d .rec) (d .value) log f) (record { answer = d .answer; value = d .value; log = log; flash = f }))
-      go true e = appended-safe (log .state) refl (d .rec) (d .value) (sound e)
-      go false e = unwritten-safe (Unmatched (log .state) (d .rec)) Same (record { answer = d .answer; value = d .value; log = log; flash = f }) on i refl
+      go true e =
+          subst (λ (x : Raw). SafeCall n (Unmatched (log .state) r) Same (holding (joined x (recordsOf log))) (appended (log .state) n x (d .value) log f)) (sym (sound e .rec-is))
+          (appended-safe (log .state) refl r (d .value) (sound e .may))
+      go false e = unwritten-safe (Unmatched (log .state) r) Same (record { answer = d .answer; value = d .value; log = log; flash = f }) on i refl
 
   -- ---- what comes of a format
   pub formatted-safe : log .state ≡ Unformatted → (t : List Raw) → Proper t → SafeCall n (Unit {0}) Same (holding t) (formatted t n log f)
