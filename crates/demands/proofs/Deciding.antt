@@ -1,12 +1,12 @@
 -- What a call decides to write may be written: bytes with a tag, with room for its key, and no monotonic value below the one held.
 use mathlib.Core.Path.{_≡_, refl, sym, ap, ap₂, subst, _∙_}
-use mathlib.Core.Bool.{Bool, true, false, _&&_, and-false, false≢true}
+use mathlib.Core.Bool.{Bool, true, false, _&&_, and-false, or-true, false≢true}
 use mathlib.Core.List.{List, [], _∷_, _++_}
-use Prim.Native.Nat.{ℕ, zero, suc, _<_, _^_}
+use Prim.Native.Nat.{ℕ, zero, suc, _+_, _≤_, _<_, _^_}
 use native.Mathlib.Omega.{arith}
 use lib.Dec.{eqb, ltb}
 use lib.ListN.{length, getD, take, List·getD-eq-default}
-use borrow.Author.Tests.{le-ltb, ltb-true, ltb-false}
+use borrow.Author.Tests.{lt-ltb, le-ltb, ltb-true, ltb-false}
 use Rattle.basics.specs.Choice.{pick}
 use Rattle.basics.specs.Answers.{isDone}
 use Rattle.basics.specs.Little.{leBytes, leNumber}
@@ -22,14 +22,18 @@ use Rattle.codec.specs.Slots.{noRaw, some}
 use Rattle.bodies.specs.Bodies.{counterBody, counterRecord, counterIn, valueBody, valueRecord, valueIn, anchorBody, anchorRecord, anchorIn}
 use Rattle.bodies.specs.declared.AnchorRecord.{AnchorRecord}
 use Rattle.bodies.proofs.RoundTrip.{value-read}
-use Rattle.records.specs.Table.{placeOf, holds, falls}
+use Rattle.seeding.specs.declared.Seed.{Seed}
+use Rattle.seeding.specs.Seeds.{seeded}
+use Rattle.seeding.proofs.Seeding.{seeded-most}
+use Rattle.records.specs.Table.{joined, hasRoom, limit, placeOf, holds, falls}
 use Rattle.records.proofs.Joining.{nowhere}
 use Rattle.fitting.proofs.Owned.{Whole}
 use Rattle.deciding.specs.declared.Decision.{Decision}
 use Rattle.deciding.specs.Decisions.{refuse, write, sameCounter, putDecision, valueDecision, sameAnchor, anchorWrite, anchorDecision}
 use Rattle.reading.specs.Entering.{heldOf, roomFor}
 use Rattle.reading.proofs.Entering.{held-at}
-use Rattle.demands.specs.Typed.{TypedCounter, TypedAnchor}
+use Rattle.demands.specs.Typed.{TypedCounter, TypedAnchor, TypedSeeds}
+use Rattle.demands.proofs.Tables.{Proper, join-proper}
 use Rattle.demands.proofs.Performing.{Writes}
 
 -- ---- records of bytes
@@ -120,7 +124,7 @@ module _ (held : OptRaw) (room : Bool) where
       P : Decision → Type 0
       P = Only room (valueRecord id new) (Rises id new)
 
-  pub anchor-only : (new : Anchor) → Only room (anchored new) (Unit {0}) (anchorDecision held room new)
+  pub anchor-only : (new : Anchor) → Only room (anchored new) (anchorRecord new .raw ≡ anchored new) (anchorDecision held room new)
   unfolding anchorDecision anchorWrite
   anchor-only new =
       by-test P (held .some) _ _
@@ -129,12 +133,12 @@ module _ (held : OptRaw) (room : Bool) where
       (λ _. wrote)
     where
       P : Decision → Type 0
-      P = Only room (anchored new) (Unit {0})
+      P = Only room (anchored new) (anchorRecord new .raw ≡ anchored new)
 
       wrote : P (pick (isDone (anchorRecord new .answer)) (write room (anchorRecord new .raw) 0) (refuse (anchorRecord new .answer)))
       wrote =
           by-test P (isDone (anchorRecord new .answer)) _ _
-          (λ e. subst (λ (r : Raw). P (write room r 0)) (sym (anchor-record new e)) (only-write room (anchored new) (Unit {0}) 0 tt))
+          (λ e. subst (λ (r : Raw). P (write room r 0)) (sym (anchor-record new e)) (only-write room (anchored new) (anchorRecord new .raw ≡ anchored new) 0 (anchor-record new e)))
           (λ _ h. absurd (false≢true h))
 
 -- ---- and so may be written
@@ -186,8 +190,28 @@ value-sound id new h k t =
     only-writable (valueRecord id new) (value-whole id new h k) (λ e. omega arith) t (Rises (heldOf valueTag id t) (roomFor valueTag id t) id new) (valueDecision (heldOf valueTag id t) (roomFor valueTag id t) id new)
     (value-rises id new t) (value-only (heldOf valueTag id t) (roomFor valueTag id t) id new (held-blank valueTag id t))
 
-pub anchor-sound : (new : Anchor) → TypedAnchor new → Sound anchorTag 0 (λ (held : OptRaw) (room : Bool). anchorDecision held room new) (λ t. anchored new)
+pub anchor-sound : (new : Anchor) → TypedAnchor new → Sound anchorTag 0 (λ (held : OptRaw) (room : Bool). anchorDecision held room new) (λ t. anchorRecord new .raw)
 unfolding isMonotonic
-anchor-sound new typed t =
-    only-writable (anchored new) (anchor-whole new typed) (λ e. omega arith) t (Unit {0}) (anchorDecision (heldOf anchorTag 0 t) (roomFor anchorTag 0 t) new)
-    (λ _. steady (anchored new) (getD t (placeOf anchorTag 0 t) nowhere) refl) (anchor-only (heldOf anchorTag 0 t) (roomFor anchorTag 0 t) new)
+anchor-sound new typed t e =
+    let d = anchorDecision (heldOf anchorTag 0 t) (roomFor anchorTag 0 t) new in
+    let only = anchor-only (heldOf anchorTag 0 t) (roomFor anchorTag 0 t) new in
+    subst (λ (r : Raw). Writes d r t) (sym (only e .2))
+    (only-writable (anchored new) (anchor-whole new typed) (λ z. omega arith) t (anchorRecord new .raw ≡ anchored new) d (λ _. steady (anchored new) (getD t (placeOf anchorTag 0 t) nowhere) refl) only e)
+
+-- where nothing is held, an anchor whose head_seq has 48 bits is written
+pub anchor-first-writes : (new : Anchor) → isDone (anchorRecord new .answer) ≡ true
+    → (anchorDecision (heldOf anchorTag 0 []) (roomFor anchorTag 0 []) new .write ≡ true) × (anchorDecision (heldOf anchorTag 0 []) (roomFor anchorTag 0 []) new .rec ≡ anchorRecord new .raw)
+unfolding anchorDecision anchorWrite heldOf roomFor holds
+anchor-first-writes new e = rw e (refl, refl)
+
+-- ---- the seeds of a format
+room-left : (r : Raw) (t : List Raw) → length t < limit → hasRoom limit r t ≡ true
+room-left r t h = rw (lt-ltb (length t) limit h, or-true)
+
+pub seeded-proper : (seeds : List Seed) (t : List Raw) → TypedSeeds seeds → length t + length seeds ≤ limit → Proper t → Proper (seeded seeds t)
+unfolding seeded TypedSeeds
+seeded-proper [] t typed few p = p
+seeded-proper (s ∷ seeds) t typed few p =
+    let r = counterRecord (s .credential) (s .state) in
+    seeded-proper seeds (joined r t) (typed .2) (omega (arith, seeded-most (s ∷ []) t))
+    (join-proper r t (counter-whole (s .credential) (s .state) (typed .0) (typed .1)) (λ e. omega arith) (room-left r t (omega arith)) p)

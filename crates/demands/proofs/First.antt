@@ -2,7 +2,7 @@
 use mathlib.Core.Path.{_≡_, refl, sym, ap, ap₂, subst, _∙_}
 use mathlib.Core.Bool.{Bool, true, false, false≢true}
 use mathlib.Core.List.{List, []}
-use mathlib.Core.Logic.{_⊎_, inl, inr}
+use mathlib.Core.Logic.{inl, inr}
 use Prim.Native.Nat.{ℕ, _+_}
 use native.Mathlib.Omega.{arith}
 use lib.Dec.{eqb}
@@ -25,7 +25,7 @@ use Rattle.performing.specs.Outcomes.{Outcome}
 use Rattle.performing.specs.Performing.{performed, formatted}
 use Rattle.demands.specs.Chance.{Unmatched}
 use Rattle.demands.specs.Healthy.{Healthy}
-use Rattle.demands.specs.Shown.{Seen, seenBy, seen, Table, holding, tableIn, tableOf}
+use Rattle.demands.specs.Shown.{OrEmpty, seenBy, seen, Table, holding, tableIn, tableOf}
 use Rattle.demands.proofs.Tables.{proper-none, Writable}
 use Rattle.demands.proofs.Invariant.{Inv}
 use Rattle.demands.proofs.Endings.{Fails}
@@ -50,17 +50,13 @@ formatThen decide n o = pick (isDone (o .answer)) (performed (decide (o .log)) n
 module _ (decide : Log → Decision) (sound : (l : Log) → decide l .write ≡ true → Writable (decide l .rec) (recordsOf l))
     (r : Raw) (decides : (l : Log) → tableOf l ≡ holding [] → (decide l .write ≡ true) × (decide l .rec ≡ r))
     (log : Log) (unformatted : log .state ≡ Unformatted) where
-  -- what was seen before, or the empty log that the format left
-  abbrev pub OrEmpty : Seen → Type 0
-  OrEmpty z = (z ≡ seen log) ⊎ (tableIn z ≡ holding [])
-
   decided-table : (l : Log) → tableOf l ≡ holding [] → decidedTable (decide l) l ≡ holding (joined r [])
   decided-table l e =
       ap (λ (b : Bool). pick b (holding (joined (decide l .rec) (recordsOf l))) (tableOf l)) (decides l e .0)
       ∙ ap₂ (λ (x : Raw) (t : List Raw). holding (joined x t)) (decides l e .1) (none-held l e)
 
   module _ (n : ℕ) where
-    then-safe : (o : Outcome) → SafeCall n (Unit {0}) (λ z. z ≡ seen log) (holding []) o → SafeCall n (Unmatched (o .log .state) r) OrEmpty (holding (joined r [])) (formatThen decide n o)
+    then-safe : (o : Outcome) → SafeCall n (Unit {0}) (λ z. z ≡ seen log) (holding []) o → SafeCall n (Unmatched (o .log .state) r) (OrEmpty log) (holding (joined r [])) (formatThen decide n o)
     then-safe o (lasted c z i (inl d)) =
         let l = o .log in
         let writes = decides l (d .1) in
@@ -69,16 +65,16 @@ module _ (decide : Log → Decision) (sound : (l : Log) → decide l .write ≡ 
         subst (λ (m : ℕ). SafeCall m (Unmatched (l .state) r) (λ x. x ≡ seen l) (decidedTable (decide l) l) (performed (decide l) m l (o .flash))) z safe in
         let there = subst (λ (t : Table). SafeCall n (Unmatched (l .state) r) (λ x. x ≡ seen l) t (performed (decide l) n l (o .flash))) (decided-table l (d .1)) here in
         rw (d .0)
-        (safe-weaker n (Unmatched (l .state) r) (Unmatched (l .state) r) (λ x. x ≡ seen l) OrEmpty (holding (joined r [])) (performed (decide l) n l (o .flash))
+        (safe-weaker n (Unmatched (l .state) r) (Unmatched (l .state) r) (λ x. x ≡ seen l) (OrEmpty log) (holding (joined r [])) (performed (decide l) n l (o .flash))
         (λ u. u) (λ x e. inr (ap tableIn e ∙ d .1)) there)
     then-safe o (lasted c z i (inr d)) = rw (d .0) (lasted c z i (inr (d .0, inl (d .1))))
     then-safe o (stopped c e k) = rw e (stopped c e (λ _. go (k tt)))
       where
-        go : WakesUp (λ z. z ≡ seen log) (holding []) (o .flash .image) → WakesUp OrEmpty (holding (joined r [])) (o .flash .image)
+        go : WakesUp (λ z. z ≡ seen log) (holding []) (o .flash .image) → WakesUp (OrEmpty log) (holding (joined r [])) (o .flash .image)
         go w = record { log = w .log; inv = w .inv; shows = inl (w .shows) }
 
   pub first-safe : (f : Flash) → f .cut ≡ false → Inv (f .image) log
-      → SafeCall (sectorsIn (length (f .image))) (Unmatched (formatted [] (sectorsIn (length (f .image))) log f .log .state) r) OrEmpty (holding (joined r []))
+      → SafeCall (sectorsIn (length (f .image))) (Unmatched (formatted [] (sectorsIn (length (f .image))) log f .log .state) r) (OrEmpty log) (holding (joined r []))
       (formatThen decide (sectorsIn (length (f .image))) (formatted [] (sectorsIn (length (f .image))) log f))
   first-safe f on i = then-safe (sectorsIn (length (f .image))) (formatted [] (sectorsIn (length (f .image))) log f) (formatted-safe f log on i unformatted [] proper-none)
 

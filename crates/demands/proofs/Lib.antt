@@ -16,3 +16,4 @@ pub mod Tracing
 pub mod Wear
 pub mod Leaving
 pub mod Deciding
+pub mod Calls

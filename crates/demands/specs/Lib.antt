@@ -3,3 +3,4 @@ pub mod Chance
 pub mod Shown
 pub mod Healthy
 pub mod Typed
+pub mod Calls

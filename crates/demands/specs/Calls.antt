@@ -1,0 +1,70 @@
+-- The calls that can change a log or an image, with any arguments, and what each comes to. The others take no image and hand back no log.
+use mathlib.Core.List.{List, []}
+use Prim.Native.Nat.{ℕ, _<_, _^_}
+use lib.ListN.{length}
+use Rattle.ids.specs.declared.CounterState.{CounterState}
+use Rattle.ids.specs.declared.Anchor.{Anchor}
+use Rattle.codec.specs.declared.Raw.{Raw}
+use Rattle.codec.specs.Slots.{noRaw}
+use Rattle.bodies.specs.Bodies.{counterRecord, valueRecord, anchorRecord}
+use Rattle.flash.specs.declared.Plan.{Plan}
+use Rattle.flash.specs.Image.{sectorsIn}
+use Rattle.records.specs.declared.State.{State}
+use Rattle.records.specs.declared.State.the-variants.{Unformatted, Failed, Active}
+use Rattle.records.specs.declared.Log.{Log}
+use Rattle.records.specs.Logs.{recordsOf}
+use Rattle.seeding.specs.declared.Seed.{Seed}
+use Rattle.performing.specs.Outcomes.{Outcome, flashOf}
+use Rattle.performing.specs.Performing.{formatted}
+use Rattle.log.specs.Calls.{putOf, putValueOf, putAnchorOf, formatOf}
+use Rattle.demands.specs.Chance.{Unmatched}
+use Rattle.demands.specs.Healthy.{healthy}
+use Rattle.demands.specs.Shown.{Table, tableOf}
+use Rattle.demands.specs.Typed.{TypedCounter, TypedAnchor, TypedSeeds}
+
+pub data Call : Type 0 where
+  put : ℕ → CounterState → Call
+  put-value : ℕ → ℕ → Call
+  put-anchor : Anchor → Call
+  format : List Seed → ℕ → Call
+
+abbrev pub outcomeOf : Call → List ℕ → Log → Plan → Outcome
+outcomeOf (put credential new) image log plan = putOf image log plan credential new
+outcomeOf (put-value id new) image log plan = putValueOf image log plan id new
+outcomeOf (put-anchor new) image log plan = putAnchorOf image log plan new
+outcomeOf (format seeds count) image log plan = formatOf image log plan seeds count
+
+-- the arguments have their types
+abbrev pub Typed : Call → Type 0
+Typed (put credential new) = (credential < 256) × TypedCounter new
+Typed (put-value id new) = (id < 256) × (new < 2 ^ 64)
+Typed (put-anchor new) = TypedAnchor new
+Typed (format seeds count) = TypedSeeds seeds
+
+-- "The table after a call is the one it reaches on a flash that refuses nothing."
+abbrev pub tableAfter : Call → List ℕ → Log → Table
+tableAfter c image log = tableOf (outcomeOf c image log healthy .log)
+
+-- ---- the chance match of a call
+-- the record that a call appends, where it appends one, to a log with these records
+abbrev pub recordOf : Call → List Raw → Raw
+recordOf (put credential new) t = counterRecord credential new
+recordOf (put-value id new) t = valueRecord id new
+recordOf (put-anchor new) t = anchorRecord new .raw
+recordOf (format seeds count) t = noRaw
+
+-- the state of the log that it is appended to: "For the first anchor the chance match is taken under the new sector's seq."
+abbrev pub anchorTo : State → List ℕ → Log → Plan → State
+anchorTo Unformatted image log plan = formatted [] (sectorsIn (length image)) log (flashOf image plan) .log .state
+anchorTo Failed image log plan = Failed
+anchorTo (Active sector seq head) image log plan = Active sector seq head
+
+abbrev pub appendsTo : Call → List ℕ → Log → Plan → State
+appendsTo (put credential new) image log plan = log .state
+appendsTo (put-value id new) image log plan = log .state
+appendsTo (put-anchor new) image log plan = anchorTo (log .state) image log plan
+appendsTo (format seeds count) image log plan = Unformatted
+
+-- the chance match doesn't occur
+abbrev pub NoChance : Call → List ℕ → Log → Plan → Type 0
+NoChance c image log plan = Unmatched (appendsTo c image log plan) (recordOf c (recordsOf log))
