@@ -148,4 +148,3 @@ pub fn anchor_decision(held: OptRaw, room: bool, new: Anchor) -> Decision
     }
     written
 }
-

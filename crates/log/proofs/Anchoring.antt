@@ -122,7 +122,7 @@ module _ (image : List ℕ) (log : Log) (plan : Plan) (a : Anchor) (e : Entry) (
       go : (b : Bool) → isDone (e .answer) ≡ b → entered image log plan true call ≡ entered image log plan true (anchorCall a)
       go true h =
           let never : isFirst a ≡ true → log .state ≡ Unformatted → ⊥ =
-              λ f u. false≢true (sym o ∙ ap (λ (s : State). opensLog (e .answer) s a) u ∙ both.both h f) in
+          λ f u. false≢true (sym o ∙ ap (λ (s : State). opensLog (e .answer) s a) u ∙ both.both h f) in
           entered-in image log plan true anchorTag 0 e is-entry call h
           ∙ not-first (log .state) a n log (flashOf image plan) refl never
           ∙ sym (entered-in image log plan true anchorTag 0 e is-entry (anchorCall a) h)

@@ -79,14 +79,7 @@ fn first_anchor(image: &mut [u8], log: Log, used: Used, sectors: usize, new: Anc
     requires { ⌜ Room (length (now image)) sectors log used × (log .state ≡ Unformatted) × (0 < sectors) × (used .programmed ≤ 0) × (used .erased ≤ 0) × (isFirst new ≡ true) ⌝ }
     ensures { λ r. ⌜ Shows (λ (cut : Bool). anchoredFirst new sectors (formatted [] sectors log (flashWith (now (image .entry)) used cut))) r (now (image .exit)) ⌝ }
 {
-    let f = performing::format_with(
-        image,
-        log,
-        used,
-        sectors,
-        records::empty_table(),
-        0,
-    );
+    let f = performing::format_with(image, log, used, sectors, records::empty_table(), 0);
     let answer = f.answer;
     if !basics::is_done(answer) {
         return f;

@@ -88,5 +88,5 @@ module _ (image : List ℕ) (log : Log) (plan : Plan) (known : Bool) (tag id : �
     pub call-meets : (r : Done) (left : List ℕ) → Shows (λ (cut : Bool). performedOn e d m log (flashWith image used cut)) r left → Meets (entered image log plan known (decided tag id decision)) r left
     call-meets r left shown =
         let same : performedOn e d m log (flashWith image used false) ≡ entered image log plan known (decided tag id decision) =
-            (λ i. performedOn e (is-decision i) (counted i) log (flashWith image (fresh i) false)) ∙ sym (called decision) in
+        (λ i. performedOn e (is-decision i) (counted i) log (flashWith image (fresh i) false)) ∙ sym (called decision) in
         subst (λ (o : Outcome). Meets o r left) same (shown false)

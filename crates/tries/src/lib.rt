@@ -87,7 +87,11 @@ fn spend_from(s: CounterState, room: bool, credential: u8) -> Decision
     }
     match s.after_failure() {
         Next::Refused(answer) => deciding::refuses(answer),
-        Next::State(new) => deciding::writes(room, bodies::counter_record(credential, new), before as u64),
+        Next::State(new) => deciding::writes(
+            room,
+            bodies::counter_record(credential, new),
+            before as u64,
+        ),
     }
 }
 
@@ -112,13 +116,15 @@ fn set_decision(held: OptRaw, room: bool, credential: u8, tries: u8) -> Decision
     ensures { λ r. ⌜ r ≡ setDecision held room credential tries ⌝ }
 {
     let s = start(held, tries);
-    if held.some {
-        if s.remaining() == tries {
-            return deciding::gives(0);
-        }
-    }
     let new = s.after_reset(tries);
-    deciding::writes(room, bodies::counter_record(credential, new), 0)
+    let written = deciding::writes(room, bodies::counter_record(credential, new), 0);
+    if !held.some {
+        return written;
+    }
+    if s.remaining() == tries {
+        return deciding::gives(0);
+    }
+    written
 }
 
 // So many tries from now on; nothing is written where there are so many already.

@@ -98,8 +98,8 @@ perform-requires c κs =
       };
       placed = λ _ _. record {
         place =
-          sym (ap (λ (t : List Raw). placeOf (d .anchor-decision .result .rec .tag) (d .anchor-decision .result .rec .id) t)
-          (ap (λ (x : Done). recordsOf (x .log)) e ∙ empty w (formed l) true));
+            sym (ap (λ (t : List Raw). placeOf (d .anchor-decision .result .rec .tag) (d .anchor-decision .result .rec .id) t)
+            (ap (λ (x : Done). recordsOf (x .log)) e ∙ empty w (formed l) true));
         free = omega arith;
       };
     }
@@ -119,11 +119,11 @@ returns-2 c = λ cut.
     let e = shown w cut .answered in
     let left = shown w cut .left in
     let decision : d .anchor-decision .result ≡ anchorDecision none true (a .new) =
-        d .anchor-decision .ensures ∙ ap (λ (x : Raw). anchorDecision (record { some = false; raw = x }) true (a .new)) (z .none .ensures) in
+    d .anchor-decision .ensures ∙ ap (λ (x : Raw). anchorDecision (record { some = false; raw = x }) true (a .new)) (z .none .ensures) in
     let same : performed (whenActive (w .format-with .result .log .state) (d .anchor-decision .result)) (a .sectors) (w .format-with .result .log)
-        (record { image = w .format-with .last .0; plan = w .format-with .result .plan; programmed = w .format-with .result .programmed; erased = w .format-with .result .erased; cut = o .flash .cut })
-        ≡ performed (whenActive (o .log .state) (anchorDecision none true (a .new))) (a .sectors) (o .log) (o .flash) =
-        λ i. performed (whenActive (e i .log .state) (decision i)) (a .sectors) (e i .log) (record { image = left i; plan = e i .plan; programmed = e i .programmed; erased = e i .erased; cut = o .flash .cut }) in
+    (record { image = w .format-with .last .0; plan = w .format-with .result .plan; programmed = w .format-with .result .programmed; erased = w .format-with .result .erased; cut = o .flash .cut })
+    ≡ performed (whenActive (o .log .state) (anchorDecision none true (a .new))) (a .sectors) (o .log) (o .flash) =
+    λ i. performed (whenActive (e i .log .state) (decision i)) (a .sectors) (e i .log) (record { image = left i; plan = e i .plan; programmed = e i .programmed; erased = e i .erased; cut = o .flash .cut }) in
     rw (first-decided (a .new) (a .sectors) o (told w cut true (formed l)) (empty w (formed l) cut))
     (subst (λ (x : Outcome). Meets x (p .perform .result) (p .perform .last .0)) same (p .perform .ensures (o .flash .cut)))
 

@@ -142,9 +142,9 @@ returns-2 c =
     let a = start-of e .args in
     let made : (n : ℕ) (used : Used) (x : Seeded) → Outcome = λ (n : ℕ) (used : Used) (x : Seeded). formatted (take (x .count) (x .table)) n (a .log) (flashWith (a .image .now) used false) in
     let same : made (e .before .before .sectors .result) (u .unused .result) (t .seed-table .result) ≡ formatOf (a .image .now) (a .log) (a .plan) (a .seeds) (a .count) =
-        (λ i. made (e .before .before .sectors .ensures i) (u .unused .ensures i) (t .seed-table .ensures i))
-        ∙ ap (λ (x : List Raw). formatted x (sectorsIn (length (a .image .now))) (a .log) (flashOf (a .image .now) (a .plan))) (places-take (seedTable (a .seeds) (a .count)))
-        ∙ sym (by-state l _ (m .enum-told .given .1)) in
+    (λ i. made (e .before .before .sectors .ensures i) (u .unused .ensures i) (t .seed-table .ensures i))
+    ∙ ap (λ (x : List Raw). formatted x (sectorsIn (length (a .image .now))) (a .log) (flashOf (a .image .now) (a .plan))) (places-take (seedTable (a .seeds) (a .count)))
+    ∙ sym (by-state l _ (m .enum-told .given .1)) in
     subst (λ (o : Outcome). Meets o (p .format-with .result) (p .format-with .last .0)) same (p .format-with .ensures false)
 
 returns-3 : tie.Need-returns-3

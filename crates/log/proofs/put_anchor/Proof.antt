@@ -73,8 +73,8 @@ returns c =
     let a = start-of e .args in
     let first : (n : ℕ) (used : Used) → Outcome = λ (n : ℕ) (used : Used). anchoredFirst (a .new) n (formatted [] n (a .log) (flashWith (a .image .now) used false)) in
     let same : first (e .before .sectors .result) (u .unused .result) ≡ putAnchorOf (a .image .now) (a .log) (a .plan) (a .new) =
-        (λ i. first (e .before .sectors .ensures i) (u .unused .ensures i))
-        ∙ sym (as-first (a .image .now) (a .log) (a .plan) (a .new) (e .enter .result) (is-entry e) (opens f true (p .before .before .if1 .taken))) in
+    (λ i. first (e .before .sectors .ensures i) (u .unused .ensures i))
+    ∙ sym (as-first (a .image .now) (a .log) (a .plan) (a .new) (e .enter .result) (is-entry e) (opens f true (p .before .before .if1 .taken))) in
     subst (λ (o : Outcome). Meets o (p .first-anchor .result) (p .first-anchor .last .0)) same (p .first-anchor .ensures false)
 
 anchor-decision-requires : tie.Need-anchor-decision-requires

@@ -62,8 +62,7 @@ append-requires c κs =
     let s = n .before .before in
     let a = s .args in
     let room = s .pre .0 in
-    let active = fits-active (a .sectors) (a .log) (room .fits) (a .sector) (a .seq) (a .head) (s .pre .1) in
-    (
+    let active = fits-active (a .sectors) (a .log) (room .fits) (a .sector) (a .seq) (a .head) (s .pre .1) in (
       rw (n .new-count .ensures) (new-most (a .log .count) (a .at) (fits-clauses (a .sectors) (a .log) (room .fits) .few) (s .pre .2 .free)),
       room .few,
       room .sized,
@@ -91,8 +90,8 @@ returns c = λ cut.
     let shown = subst (λ (t : List Raw). Writing (wrote t) (p .append .result) (p .append .last .0)) records (p .append .ensures cut) in
     record {
       answered =
-        c .finish .ensures
-        ∙ finished (wrote (after s)) (p .append .result) (a .value) (a .log) (after s) (before s) (set (a .log .table) (a .at) (a .rec)) (n .new-count .result) (shown .shown) (new-table s) count (tabled s) (counted s);
+          c .finish .ensures
+          ∙ finished (wrote (after s)) (p .append .result) (a .value) (a .log) (after s) (before s) (set (a .log .table) (a .at) (a .rec)) (n .new-count .result) (shown .shown) (new-table s) count (tabled s) (counted s);
       left = shown .left;
     }
 

@@ -113,7 +113,7 @@ loop-again c =
     let made = stored r t (omega (arith, place-is p, free p)) in
     let seed = getD-take (a .count) (a .t1) (l .loop .i) noSeed (omega arith) in
     let rec-is : r ≡ counterRecord (getD (take (a .count) (a .t1)) (l .loop .i) noSeed .credential) (getD (take (a .count) (a .t1)) (l .loop .i) noSeed .state) =
-        p .before .counter-record .ensures ∙ ap (λ (s : Seed). counterRecord (s .credential) (s .state)) (sym seed) in
+    p .before .counter-record .ensures ∙ ap (λ (s : Seed). counterRecord (s .credential) (s .state)) (sym seed) in
     let count = c .new-count .ensures ∙ ap₂ newCount (inv .counted) (place-is p) ∙ made .1 in
     record {
       t = joined r t;
@@ -123,9 +123,9 @@ loop-again c =
       within = omega arith;
       long = inv .long;
       rest =
-        ap (λ (x : Raw). seeded (drop (l .loop .i + 1) (take (a .count) (a .t1))) (joined x t)) rec-is
-        ∙ sym (seeded-turn (take (a .count) (a .t1)) (l .loop .i) t (omega (arith, inv .long)))
-        ∙ inv .rest;
+          ap (λ (x : Raw). seeded (drop (l .loop .i + 1) (take (a .count) (a .t1))) (joined x t)) rec-is
+          ∙ sym (seeded-turn (take (a .count) (a .t1)) (l .loop .i) t (omega (arith, inv .long)))
+          ∙ inv .rest;
     }
 
 returns : tie.Need-returns Inv-loop μ-loop

@@ -1,0 +1,2 @@
+-- Laws of what the helpers decide.
+pub mod Keyed
