@@ -45,7 +45,7 @@ use Rattle.demands.proofs.Invariant.{Inv}
 use Rattle.demands.proofs.Performing.{SafeCall, refusal-safe, safe-weaker, Writes, writes-writable, decidedTable, performed-safe, formatted-safe}
 use Rattle.demands.proofs.Attaining.{Attains, attained, performed-attains, formatted-attains}
 use Rattle.demands.proofs.First.{first-safe, first-attains}
-use Rattle.demands.proofs.Deciding.{Sound, anchor-sound, anchor-first-writes, seeded-proper}
+use Rattle.demands.proofs.Deciding.{Sound, anchor-writes, anchor-sound, anchor-first-writes, seeded-proper}
 
 -- ---- tests first
 module _ (image : List ℕ) (log : Log) (i : Inv image log) (known : Bool) (call : ℕ → Log → Flash → Outcome) where
@@ -87,7 +87,7 @@ module _ (image : List ℕ) (log : Log) (i : Inv image log) where
       → SafeCall (sectorsIn (length image)) (Unmatched (log .state) (r (recordsOf log))) (λ z. z ≡ seen log) (tableOf (entered image log healthy known (decided tag id d) .log)) (entered image log plan known (decided tag id d))
   keyed-safe known tag id d r sound plan =
       let made = decision tag id d in
-      let writes = active-writes (d (heldOf tag id (recordsOf log)) (roomFor tag id (recordsOf log))) (r (recordsOf log)) (sound (recordsOf log)) (log .state) in
+      let writes = active-writes (d (heldOf tag id (recordsOf log)) (roomFor tag id (recordsOf log))) (r (recordsOf log)) (sound (recordsOf log) (i .agrees .proper .whole)) (log .state) in
       entered-safe image log i known (decided tag id d) (Unmatched (log .state) (r (recordsOf log))) (λ z. z ≡ seen log) refl plan (decidedTable made log)
       (λ _. performed-safe (flashOf image plan) log refl i made (r (recordsOf log)) writes)
       (λ _. performed-attains image log i made (λ e. writes-writable made (r (recordsOf log)) (recordsOf log) (writes e)))
@@ -159,7 +159,7 @@ module _ (image : List ℕ) (log : Log) (i : Inv image log) where
         go : (z : State) → whenActive z made .write ≡ true → Writable (whenActive z made .rec) (recordsOf l)
         go Unformatted z = absurd (false≢true z)
         go Failed z = absurd (false≢true z)
-        go (Active sector seq head) z = writes-writable made r (recordsOf l) (anchor-sound new typed (recordsOf l) z)
+        go (Active sector seq head) z = writes-writable made r (recordsOf l) (anchor-writes new typed (recordsOf l) z)
 
     module _ (plan : Plan) where
       -- the call by the state of the log

@@ -27,7 +27,7 @@ use Rattle.seeding.specs.Seeds.{seeded}
 use Rattle.seeding.proofs.Seeding.{seeded-most}
 use Rattle.records.specs.Table.{joined, hasRoom, limit, placeOf, holds, falls}
 use Rattle.records.proofs.Joining.{nowhere}
-use Rattle.fitting.proofs.Owned.{Whole}
+use Rattle.fitting.proofs.Owned.{Whole, AllWhole}
 use Rattle.deciding.specs.declared.Decision.{Decision}
 use Rattle.deciding.specs.Decisions.{refuse, write, sameCounter, putDecision, valueDecision, sameAnchor, anchorWrite, anchorDecision}
 use Rattle.reading.specs.Entering.{heldOf, roomFor}
@@ -110,7 +110,7 @@ module _ (held : OptRaw) (room : Bool) where
       wrote = only-write room (counterRecord credential new) (Unit {0}) 0 tt
 
   -- not below the value held: where none is held, 0
-  abbrev Rises : ℕ → ℕ → Type 0
+  abbrev pub Rises : ℕ → ℕ → Type 0
   Rises id new = (isMonotonic valueTag id && ltb new (valueIn (held .raw .body))) ≡ false
 
   pub value-only : (id new : ℕ) → (held .some ≡ false → valueIn (held .raw .body) ≡ 0) → Only room (valueRecord id new) (Rises id new) (valueDecision held room id new)
@@ -154,12 +154,12 @@ held-value tag id t = go (ltb (placeOf tag id t) (length t)) refl ∙ ap (λ (o 
         ap (λ (r : Raw). valueIn (r .body)) (List·getD-eq-default t nowhere past) ∙ sym (ap (λ (r : Raw). valueIn (r .body)) (List·getD-eq-default t noRaw past))
 
 -- counters and anchors don't fall
-steady : (r x : Raw) → isMonotonic (r .tag) (r .id) ≡ false → falls r x ≡ false
+pub steady : (r x : Raw) → isMonotonic (r .tag) (r .id) ≡ false → falls r x ≡ false
 unfolding falls
 steady r x e = rw e
 
 -- nothing is held, and so no value
-held-blank : (tag id : ℕ) (t : List Raw) → heldOf tag id t .some ≡ false → valueIn (heldOf tag id t .raw .body) ≡ 0
+pub held-blank : (tag id : ℕ) (t : List Raw) → heldOf tag id t .some ≡ false → valueIn (heldOf tag id t .raw .body) ≡ 0
 unfolding heldOf leNumber
 held-blank tag id t = by-test (λ (o : OptRaw). o .some ≡ false → valueIn (o .raw .body) ≡ 0) (holds tag id t) _ _ (λ _ e. absurd (false≢true (sym e))) (λ _ e. refl)
 
@@ -172,31 +172,35 @@ module _ (r : Raw) (w : Whole r) (tagged : r .tag ≡ 0xFF → ⊥) (t : List Ra
 
 -- what is decided on the record of a key writes this record, whatever the log holds
 abbrev pub Sound : ℕ → ℕ → (OptRaw → Bool → Decision) → (List Raw → Raw) → Type 0
-Sound tag id decision r = (t : List Raw) → decision (heldOf tag id t) (roomFor tag id t) .write ≡ true → Writes (decision (heldOf tag id t) (roomFor tag id t)) (r t) t
+Sound tag id decision r = (t : List Raw) → AllWhole t → decision (heldOf tag id t) (roomFor tag id t) .write ≡ true → Writes (decision (heldOf tag id t) (roomFor tag id t)) (r t) t
 
 pub put-sound : (credential : ℕ) (new : CounterState) → credential < 256 → TypedCounter new → Sound counterTag credential (λ (held : OptRaw) (room : Bool). putDecision held room credential new) (λ t. counterRecord credential new)
 unfolding isMonotonic
-put-sound credential new h typed t =
+put-sound credential new h typed t _ =
     only-writable (counterRecord credential new) (counter-whole credential new h typed) (λ e. omega arith) t (Unit {0}) (putDecision (heldOf counterTag credential t) (roomFor counterTag credential t) credential new)
     (λ _. steady (counterRecord credential new) (getD t (placeOf counterTag credential t) nowhere) refl) (put-only (heldOf counterTag credential t) (roomFor counterTag credential t) credential new)
 
 -- a value that rises over the record held
-value-rises : (id new : ℕ) (t : List Raw) → Rises (heldOf valueTag id t) (roomFor valueTag id t) id new → falls (valueRecord id new) (getD t (placeOf valueTag id t) nowhere) ≡ false
+pub value-rises : (id new : ℕ) (t : List Raw) → Rises (heldOf valueTag id t) (roomFor valueTag id t) id new → falls (valueRecord id new) (getD t (placeOf valueTag id t) nowhere) ≡ false
 unfolding falls
 value-rises id new t e = ap₂ (λ (x y : ℕ). isMonotonic valueTag id && ltb x y) (value-read new) (held-value valueTag id t) ∙ e
 
 pub value-sound : (id new : ℕ) → id < 256 → new < 2 ^ 64 → Sound valueTag id (λ (held : OptRaw) (room : Bool). valueDecision held room id new) (λ t. valueRecord id new)
-value-sound id new h k t =
+value-sound id new h k t _ =
     only-writable (valueRecord id new) (value-whole id new h k) (λ e. omega arith) t (Rises (heldOf valueTag id t) (roomFor valueTag id t) id new) (valueDecision (heldOf valueTag id t) (roomFor valueTag id t) id new)
     (value-rises id new t) (value-only (heldOf valueTag id t) (roomFor valueTag id t) id new (held-blank valueTag id t))
 
-pub anchor-sound : (new : Anchor) → TypedAnchor new → Sound anchorTag 0 (λ (held : OptRaw) (room : Bool). anchorDecision held room new) (λ t. anchorRecord new .raw)
+pub anchor-writes : (new : Anchor) → TypedAnchor new → (t : List Raw) → anchorDecision (heldOf anchorTag 0 t) (roomFor anchorTag 0 t) new .write ≡ true
+    → Writes (anchorDecision (heldOf anchorTag 0 t) (roomFor anchorTag 0 t) new) (anchorRecord new .raw) t
 unfolding isMonotonic
-anchor-sound new typed t e =
+anchor-writes new typed t e =
     let d = anchorDecision (heldOf anchorTag 0 t) (roomFor anchorTag 0 t) new in
     let only = anchor-only (heldOf anchorTag 0 t) (roomFor anchorTag 0 t) new in
     subst (λ (r : Raw). Writes d r t) (sym (only e .2))
     (only-writable (anchored new) (anchor-whole new typed) (λ z. omega arith) t (anchorRecord new .raw ≡ anchored new) d (λ _. steady (anchored new) (getD t (placeOf anchorTag 0 t) nowhere) refl) only e)
+
+pub anchor-sound : (new : Anchor) → TypedAnchor new → Sound anchorTag 0 (λ (held : OptRaw) (room : Bool). anchorDecision held room new) (λ t. anchorRecord new .raw)
+anchor-sound new typed t _ = anchor-writes new typed t
 
 -- where nothing is held, an anchor whose head_seq has 48 bits is written
 pub anchor-first-writes : (new : Anchor) → isDone (anchorRecord new .answer) ≡ true

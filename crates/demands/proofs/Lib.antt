@@ -16,4 +16,5 @@ pub mod Tracing
 pub mod Wear
 pub mod Leaving
 pub mod Deciding
+pub mod Trying
 pub mod Calls
