@@ -18,3 +18,4 @@ pub mod Leaving
 pub mod Deciding
 pub mod Trying
 pub mod Calls
+pub mod Demand3

@@ -4,3 +4,5 @@ pub mod Shown
 pub mod Healthy
 pub mod Typed
 pub mod Calls
+pub mod Sessions
+pub mod Demand3
