@@ -37,14 +37,14 @@ use Rattle.performing.specs.Performing.{decided, formatted}
 use Rattle.log.specs.Calls.{isFirst, anchorCall, anchoredFirst, anchored, putAnchorOf, formatOn, formatOf, putOf, putValueOf}
 use Rattle.demands.specs.Chance.{Unmatched}
 use Rattle.demands.specs.Healthy.{healthy}
-use Rattle.demands.specs.Shown.{Seen, seenBy, seen, Table, holding, tableIn, tableOf, OrEmpty}
+use Rattle.demands.specs.Shown.{Seen, seenBy, seen, Table, holding, tableIn, tableOf}
 use Rattle.demands.specs.Typed.{TypedAnchor, TypedSeeds}
-use Rattle.demands.specs.Calls.{Call, put, put-value, put-anchor, format, spend, set-tries, advance-lamport, outcomeOf, Typed, tableAfter, Left, anchorTo, NoChance}
+use Rattle.demands.specs.Calls.{Call, put, put-value, put-anchor, format, spend, set-tries, advance-lamport, outcomeOf, Typed, tableAfter, AnchorLeft, Left, anchorTo, NoChance}
 use Rattle.demands.proofs.Tables.{Proper, proper-none, Writable}
 use Rattle.demands.proofs.Invariant.{Inv}
 use Rattle.demands.proofs.Performing.{SafeCall, refusal-safe, safe-weaker, Writes, writes-writable, decidedTable, performed-safe, formatted-safe}
 use Rattle.demands.proofs.Attaining.{Attains, attained, performed-attains, formatted-attains}
-use Rattle.demands.proofs.First.{first-safe, first-attains}
+use Rattle.demands.proofs.First.{OrEmpty, first-safe, first-attains}
 use Rattle.demands.proofs.Deciding.{Sound, put-sound, value-sound, anchor-writes, anchor-sound, anchor-first-writes, seeded-proper}
 use Rattle.demands.proofs.Trying.{spend-sound, set-sound, advance-sound}
 use Rattle.tries.specs.Tries.{startOf, spendDecision, spendOf, setDecision, setOf, seenOf, advanceDecision, advanceOf}
@@ -170,7 +170,7 @@ module _ (image : List ℕ) (log : Log) (i : Inv image log) where
       by z n l f = anchored z new n l f
 
       abbrev Holds : State → Type 0
-      Holds z = SafeCall (sectorsIn (length image)) (Unmatched (anchorTo z image log plan) r) (OrEmpty log) (tableOf (entered image log healthy true (by z) .log)) (entered image log plan true (by z))
+      Holds z = SafeCall (sectorsIn (length image)) (Unmatched (anchorTo z image log plan) r) (AnchorLeft z new log) (tableOf (entered image log healthy true (by z) .log)) (entered image log plan true (by z))
 
       by-state : (z : State) → log .state ≡ z → Holds z
       unfolding anchoredFirst
@@ -182,26 +182,30 @@ module _ (image : List ℕ) (log : Log) (i : Inv image log) where
           C : Type 0
           C = Unmatched (formatted [] n log (flashOf image plan) .log .state) r
 
+          own : isFirst new ≡ true → (z : Seen) → OrEmpty log z → AnchorLeft Unformatted new log z
+          own f z (inl k) = inl k
+          own f z (inr k) = inr (f, k)
+
           call : Bool → ℕ → Log → Flash → Outcome
           call b n l f = pick b (anchoredFirst new n (formatted [] n l f)) (refused NotFormatted l f)
 
-          go : (b : Bool) → isFirst new ≡ b → SafeCall n C (OrEmpty log) (tableOf (entered image log healthy true (call b) .log)) (entered image log plan true (call b))
+          go : (b : Bool) → isFirst new ≡ b → SafeCall n C (AnchorLeft Unformatted new log) (tableOf (entered image log healthy true (call b) .log)) (entered image log plan true (call b))
           go true f =
-              entered-safe image log i true (call true) C (OrEmpty log) (inl refl) plan (holding (joined r []))
+              safe-weaker n C C (OrEmpty log) (AnchorLeft Unformatted new log) _ _ (λ u. u) (own f)
+              (entered-safe image log i true (call true) C (OrEmpty log) (inl refl) plan (holding (joined r []))
               (λ _. first-safe deciding sound r (first-writes f) log e (flashOf image plan) refl i)
-              (λ _. first-attains deciding sound r (first-writes f) log e image i)
+              (λ _. first-attains deciding sound r (first-writes f) log e image i))
           go false f =
-              entered-safe image log i true (call false) C (OrEmpty log) (inl refl) plan (tableOf log)
-              (λ _. refusal-safe C (OrEmpty log) _ refl i (inl refl) (tableOf log) refl) (λ _. inr (λ g. (refl, refl)))
+              entered-safe image log i true (call false) C (AnchorLeft Unformatted new log) (inl refl) plan (tableOf log)
+              (λ _. refusal-safe C (AnchorLeft Unformatted new log) _ refl i (inl refl) (tableOf log) refl) (λ _. inr (λ g. (refl, refl)))
       by-state Failed e =
-          entered-safe image log i true (by Failed) (Unit {0}) (OrEmpty log) (inl refl) plan (tableOf log)
-          (λ _. refusal-safe (Unit {0}) (OrEmpty log) _ refl i (inl refl) (tableOf log) refl) (λ _. inr (λ g. (refl, refl)))
+          entered-safe image log i true (by Failed) (Unit {0}) (λ x. x ≡ seen log) refl plan (tableOf log)
+          (λ _. refusal-safe (Unit {0}) (λ x. x ≡ seen log) _ refl i refl (tableOf log) refl) (λ _. inr (λ g. (refl, refl)))
       by-state (Active sector seq head) e =
           let keyed = keyed-safe true anchorTag 0 (λ (held : OptRaw) (room : Bool). anchorDecision held room new) (λ t. r) (anchor-sound new typed) plan in
-          let there = subst (λ (z : State). SafeCall (sectorsIn (length image)) (Unmatched z r) (λ x. x ≡ seen log) (tableOf (entered image log healthy true (anchorCall new) .log)) (entered image log plan true (anchorCall new))) e keyed in
-          safe-weaker (sectorsIn (length image)) (Unmatched (Active sector seq head) r) (Unmatched (Active sector seq head) r) (λ x. x ≡ seen log) (OrEmpty log) _ _ (λ u. u) (λ x z. inl z) there
+          subst (λ (z : State). SafeCall (sectorsIn (length image)) (Unmatched z r) (λ x. x ≡ seen log) (tableOf (entered image log healthy true (anchorCall new) .log)) (entered image log plan true (anchorCall new))) e keyed
 
-    pub anchor-safe : (plan : Plan) → SafeCall (sectorsIn (length image)) (Unmatched (anchorTo (log .state) image log plan) r) (OrEmpty log) (tableOf (putAnchorOf image log healthy new .log)) (putAnchorOf image log plan new)
+    pub anchor-safe : (plan : Plan) → SafeCall (sectorsIn (length image)) (Unmatched (anchorTo (log .state) image log plan) r) (AnchorLeft (log .state) new log) (tableOf (putAnchorOf image log healthy new .log)) (putAnchorOf image log plan new)
     unfolding putAnchorOf entered
     anchor-safe plan = by-state plan (log .state) refl
 

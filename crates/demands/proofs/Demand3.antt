@@ -1,20 +1,17 @@
 -- Demand 3 over sessions: open any image, make any calls; while power lasts, and at the call that is cut.
-use mathlib.Core.Path.{_≡_, refl, sym, ap, subst, _∙_}
-use mathlib.Core.Bool.{Bool, true, false, false≢true}
+use mathlib.Core.Path.{_≡_, sym, ap, subst, _∙_}
+use mathlib.Core.Bool.{false, false≢true}
 use mathlib.Core.List.{List, [], _∷_}
 use mathlib.Core.Logic.{_⊎_, inl, inr}
 use Prim.Native.Nat.{ℕ}
 use lib.Dec.{T}
 use lib.ListN.{length}
 use lib.Pow.{areBytes}
-use Rattle.basics.specs.Answers.{isDone}
-use Rattle.flash.specs.declared.Plan.{Plan}
 use Rattle.flash.specs.Image.{sectorsIn}
-use Rattle.records.specs.declared.Log.{Log}
 use Rattle.scan.specs.Opening.{openOf}
 use Rattle.performing.specs.Outcomes.{Outcome}
 use Rattle.demands.specs.Shown.{Seen, seen, Table, tableIn, tableOf}
-use Rattle.demands.specs.Calls.{Call, outcomeOf, Typed, tableAfter, Left, NoChance}
+use Rattle.demands.specs.Calls.{Typed, tableAfter, Left, NoChance}
 use Rattle.demands.specs.Sessions.{World, opened, Made, outcome, afterwards, played, AllTyped, Lasts}
 use Rattle.demands.specs.Demand3.{FindsAgain, WakesWith}
 use Rattle.demands.proofs.Invariant.{Inv, inv-open, open-inv}

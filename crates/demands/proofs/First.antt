@@ -2,7 +2,7 @@
 use mathlib.Core.Path.{_≡_, refl, sym, ap, ap₂, subst, _∙_}
 use mathlib.Core.Bool.{Bool, true, false, false≢true}
 use mathlib.Core.List.{List, []}
-use mathlib.Core.Logic.{inl, inr}
+use mathlib.Core.Logic.{_⊎_, inl, inr}
 use Prim.Native.Nat.{ℕ, _+_}
 use native.Mathlib.Omega.{arith}
 use lib.Dec.{eqb}
@@ -25,7 +25,7 @@ use Rattle.performing.specs.Outcomes.{Outcome}
 use Rattle.performing.specs.Performing.{performed, formatted}
 use Rattle.demands.specs.Chance.{Unmatched}
 use Rattle.demands.specs.Healthy.{Healthy}
-use Rattle.demands.specs.Shown.{OrEmpty, seenBy, seen, Table, holding, tableIn, tableOf}
+use Rattle.demands.specs.Shown.{Seen, seenBy, seen, Table, holding, tableIn, tableOf}
 use Rattle.demands.proofs.Tables.{proper-none, Writable}
 use Rattle.demands.proofs.Invariant.{Inv}
 use Rattle.demands.proofs.Endings.{Fails}
@@ -42,6 +42,10 @@ none-held log e = go (log .state) e
     go Unformatted e = cc
     go Failed e = cc
     go (Active sector seq head) e = cc
+
+-- what was seen before, or the empty log that the format left
+abbrev pub OrEmpty : Log → Seen → Type 0
+OrEmpty log z = (z ≡ seen log) ⊎ (tableIn z ≡ holding [])
 
 -- a format, and then what is decided on the log that it leaves
 abbrev pub formatThen : (Log → Decision) → ℕ → Outcome → Outcome

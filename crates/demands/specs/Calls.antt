@@ -1,6 +1,8 @@
 -- The calls that can change a log or an image, with any arguments, and what each comes to. The others take no image and hand back no log.
 use mathlib.Core.Path.{_≡_}
+use mathlib.Core.Bool.{true}
 use mathlib.Core.List.{List, []}
+use mathlib.Core.Logic.{_⊎_}
 use Prim.Native.Nat.{ℕ, _+_, _<_, _^_}
 use lib.ListN.{length}
 use Rattle.ids.specs.declared.CounterState.{CounterState}
@@ -20,11 +22,11 @@ use Rattle.reading.specs.Entering.{heldOf}
 use Rattle.seeding.specs.declared.Seed.{Seed}
 use Rattle.performing.specs.Outcomes.{Outcome, flashOf}
 use Rattle.performing.specs.Performing.{formatted}
-use Rattle.log.specs.Calls.{putOf, putValueOf, putAnchorOf, formatOf}
+use Rattle.log.specs.Calls.{isFirst, putOf, putValueOf, putAnchorOf, formatOf}
 use Rattle.tries.specs.Tries.{startOf, spendOf, setOf, seenOf, advanceOf}
 use Rattle.demands.specs.Chance.{Unmatched}
 use Rattle.demands.specs.Healthy.{healthy}
-use Rattle.demands.specs.Shown.{Seen, seen, Table, tableOf, OrEmpty}
+use Rattle.demands.specs.Shown.{Seen, seen, Table, holding, tableIn, tableOf}
 use Rattle.demands.specs.Typed.{TypedCounter, TypedAnchor, TypedSeeds}
 
 pub data Call : Type 0 where
@@ -59,11 +61,17 @@ Typed (advance-lamport latest) = latest < 2 ^ 64
 abbrev pub tableAfter : Call → List ℕ → Log → Table
 tableAfter c image log = tableOf (outcomeOf c image log healthy .log)
 
--- what may be seen of a call that had no effect: what was seen before, but for the first anchor
+-- what a put_anchor that had no effect may leave: what was seen before, or of a first anchor the empty log ("an anchor's own format may stand")
+abbrev pub AnchorLeft : State → Anchor → Log → Seen → Type 0
+AnchorLeft Unformatted new log z = (z ≡ seen log) ⊎ ((isFirst new ≡ true) × (tableIn z ≡ holding []))
+AnchorLeft Failed new log z = z ≡ seen log
+AnchorLeft (Active sector seq head) new log z = z ≡ seen log
+
+-- what a call that had no effect leaves to be seen: what was seen before
 abbrev pub Left : Call → Log → Seen → Type 0
 Left (put credential new) log z = z ≡ seen log
 Left (put-value id new) log z = z ≡ seen log
-Left (put-anchor new) log z = OrEmpty log z
+Left (put-anchor new) log z = AnchorLeft (log .state) new log z
 Left (format seeds count) log z = z ≡ seen log
 Left (spend credential current) log z = z ≡ seen log
 Left (set-tries credential tries) log z = z ≡ seen log

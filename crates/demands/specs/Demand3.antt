@@ -1,11 +1,9 @@
 -- Demand 3: what opening finds again, while power lasts and after a cut.
 use mathlib.Core.Path.{_≡_}
 use mathlib.Core.Bool.{true, false}
-use mathlib.Core.List.{List}
 use mathlib.Core.Logic.{_⊎_}
-use Prim.Native.Nat.{ℕ, _≤_}
+use Prim.Native.Nat.{_≤_}
 use Rattle.basics.specs.Answers.{isDone}
-use Rattle.records.specs.declared.Log.{Log}
 use Rattle.scan.specs.Opening.{openOf}
 use Rattle.demands.specs.Shown.{seen, tableOf, headOf}
 use Rattle.demands.specs.Calls.{tableAfter, Left, NoChance}

@@ -1,7 +1,5 @@
 -- What demand 3 compares: "state, sector, sequence number and table"; and the table alone, before a call and after it.
-use mathlib.Core.Path.{_≡_}
-use mathlib.Core.List.{List, []}
-use mathlib.Core.Logic.{_⊎_}
+use mathlib.Core.List.{List}
 use Prim.Native.Nat.{ℕ}
 use Rattle.codec.specs.declared.Raw.{Raw}
 use Rattle.records.specs.declared.State.{State}
@@ -40,7 +38,3 @@ abbrev pub headOf : State → ℕ
 headOf Unformatted = 0
 headOf Failed = 0
 headOf (Active sector seq head) = head
-
--- what a first anchor may leave: what was seen before, or the empty log of its own format ("an anchor's own format may stand")
-abbrev pub OrEmpty : Log → Seen → Type 0
-OrEmpty log z = (z ≡ seen log) ⊎ (tableIn z ≡ holding [])
