@@ -10,6 +10,8 @@ use borrow.Author.Tests.{lt-ltb, le-ltb, ltb-true, ltb-false}
 use Rattle.basics.specs.Choice.{pick}
 use Rattle.basics.specs.Answers.{isDone}
 use Rattle.basics.specs.Little.{leBytes, leNumber}
+use Rattle.basics.specs.declared.Answer.{Answer}
+use Rattle.basics.specs.declared.Answer.the-variants.{Done, KeystoreFull, IntegrityFailure}
 use Rattle.basics.proofs.Choice.{by-test}
 use Rattle.basics.proofs.Lists.{bytes-cons, bytes-append, bytes-take}
 use Rattle.basics.proofs.Little.{le-bytes}
@@ -29,7 +31,7 @@ use Rattle.records.specs.Table.{joined, hasRoom, limit, placeOf, holds, falls}
 use Rattle.records.proofs.Joining.{nowhere}
 use Rattle.fitting.proofs.Owned.{Whole, AllWhole}
 use Rattle.deciding.specs.declared.Decision.{Decision}
-use Rattle.deciding.specs.Decisions.{refuse, write, sameCounter, putDecision, valueDecision, sameAnchor, anchorWrite, anchorDecision}
+use Rattle.deciding.specs.Decisions.{refuse, give, write, sameCounter, putDecision, valueDecision, sameAnchor, anchorWrite, anchorDecision}
 use Rattle.reading.specs.Entering.{heldOf, roomFor}
 use Rattle.reading.proofs.Entering.{held-at}
 use Rattle.demands.specs.Typed.{TypedCounter, TypedAnchor, TypedSeeds}
@@ -86,60 +88,68 @@ same-there [] i h = absurd (omega arith)
 same-there (r ∷ t) zero h = refl
 same-there (r ∷ t) (suc i) h = same-there t i (omega arith)
 
--- ---- what a decision writes
--- this record, where there is room for it, and then Q holds
-abbrev pub Only : Bool → Raw → Type 0 → Decision → Type 0
-Only room r Q d = d .write ≡ true → (room ≡ true) × (d .rec ≡ r) × Q
+-- ---- what is decided
+-- a refusal, an answer without a write, or to write r where there is room for it, and then Q holds
+pub data Decided (room : Bool) (r : Raw) (Q : Type 0) : Decision → Type 0 where
+  refuses : (a : Answer) → isDone a ≡ false → Decided room r Q (refuse a)
+  gives : (value : ℕ) → Decided room r Q (give value)
+  writes : (value : ℕ) → room ≡ true → Q → Decided room r Q (record { answer = Done; write = true; value = value; rec = r })
 
-pub only-write : (room : Bool) (r : Raw) (Q : Type 0) (value : ℕ) → Q → Only room r Q (write room r value)
-only-write room r Q value q = by-test (Only room r Q) room _ _ (λ e h. (e, refl, q)) (λ e h. absurd (false≢true h))
+pub decided-write : (room : Bool) (r : Raw) (Q : Type 0) (value : ℕ) → Q → Decided room r Q (write room r value)
+decided-write room r Q value q = by-test (Decided room r Q) room _ _ (λ e. writes value e q) (λ e. refuses KeystoreFull refl)
+
+-- where it writes, Q holds
+pub decided-holds : (room : Bool) (r : Raw) (Q : Type 0) (d : Decision) → Decided room r Q d → d .write ≡ true → Q
+decided-holds room r Q d (refuses a f) e = absurd (false≢true e)
+decided-holds room r Q d (gives value) e = absurd (false≢true e)
+decided-holds room r Q d (writes value h q) e = q
 
 module _ (held : OptRaw) (room : Bool) where
-  pub put-only : (credential : ℕ) (new : CounterState) → Only room (counterRecord credential new) (Unit {0}) (putDecision held room credential new)
+  pub put-decided : (credential : ℕ) (new : CounterState) → Decided room (counterRecord credential new) (Unit {0}) (putDecision held room credential new)
   unfolding putDecision
-  put-only credential new =
+  put-decided credential new =
       by-test P (held .some) _ _
-      (λ _. by-test P (ltb (new .total) (counterIn (held .raw .body) .total)) _ _ (λ _ h. absurd (false≢true h))
-      (λ _. by-test P (sameCounter new (counterIn (held .raw .body))) _ _ (λ _ h. absurd (false≢true h)) (λ _. wrote)))
+      (λ _. by-test P (ltb (new .total) (counterIn (held .raw .body) .total)) _ _ (λ _. refuses IntegrityFailure refl)
+      (λ _. by-test P (sameCounter new (counterIn (held .raw .body))) _ _ (λ _. gives 0) (λ _. wrote)))
       (λ _. wrote)
     where
       P : Decision → Type 0
-      P = Only room (counterRecord credential new) (Unit {0})
+      P = Decided room (counterRecord credential new) (Unit {0})
 
       wrote : P (write room (counterRecord credential new) 0)
-      wrote = only-write room (counterRecord credential new) (Unit {0}) 0 tt
+      wrote = decided-write room (counterRecord credential new) (Unit {0}) 0 tt
 
   -- not below the value held: where none is held, 0
   abbrev pub Rises : ℕ → ℕ → Type 0
   Rises id new = (isMonotonic valueTag id && ltb new (valueIn (held .raw .body))) ≡ false
 
-  pub value-only : (id new : ℕ) → (held .some ≡ false → valueIn (held .raw .body) ≡ 0) → Only room (valueRecord id new) (Rises id new) (valueDecision held room id new)
+  pub value-decided : (id new : ℕ) → (held .some ≡ false → valueIn (held .raw .body) ≡ 0) → Decided room (valueRecord id new) (Rises id new) (valueDecision held room id new)
   unfolding valueDecision
-  value-only id new blank =
+  value-decided id new blank =
       by-test P (held .some) _ _
-      (λ _. by-test P (isMonotonic valueTag id && ltb new (valueIn (held .raw .body))) _ _ (λ _ h. absurd (false≢true h))
-      (λ e. by-test P (eqb new (valueIn (held .raw .body))) _ _ (λ _ h. absurd (false≢true h)) (λ _. only-write room (valueRecord id new) (Rises id new) 0 e)))
-      (λ e. only-write room (valueRecord id new) (Rises id new) 0 (rw (blank e, le-ltb new 0 (omega arith), and-false)))
+      (λ _. by-test P (isMonotonic valueTag id && ltb new (valueIn (held .raw .body))) _ _ (λ _. refuses IntegrityFailure refl)
+      (λ e. by-test P (eqb new (valueIn (held .raw .body))) _ _ (λ _. gives 0) (λ _. decided-write room (valueRecord id new) (Rises id new) 0 e)))
+      (λ e. decided-write room (valueRecord id new) (Rises id new) 0 (rw (blank e, le-ltb new 0 (omega arith), and-false)))
     where
       P : Decision → Type 0
-      P = Only room (valueRecord id new) (Rises id new)
+      P = Decided room (valueRecord id new) (Rises id new)
 
-  pub anchor-only : (new : Anchor) → Only room (anchored new) (anchorRecord new .raw ≡ anchored new) (anchorDecision held room new)
+  pub anchor-decided : (new : Anchor) → Decided room (anchored new) (anchorRecord new .raw ≡ anchored new) (anchorDecision held room new)
   unfolding anchorDecision anchorWrite
-  anchor-only new =
+  anchor-decided new =
       by-test P (held .some) _ _
-      (λ _. by-test P (sameAnchor new (anchorIn (held .raw .body))) _ _ (λ _ h. absurd (false≢true h))
-      (λ _. by-test P (eqb (new .«format_gen») (anchorIn (held .raw .body) .«format_gen») && ltb (new .«head_seq») (anchorIn (held .raw .body) .«head_seq»)) _ _ (λ _ h. absurd (false≢true h)) (λ _. wrote)))
+      (λ _. by-test P (sameAnchor new (anchorIn (held .raw .body))) _ _ (λ _. gives 0)
+      (λ _. by-test P (eqb (new .«format_gen») (anchorIn (held .raw .body) .«format_gen») && ltb (new .«head_seq») (anchorIn (held .raw .body) .«head_seq»)) _ _ (λ _. refuses IntegrityFailure refl) (λ _. wrote)))
       (λ _. wrote)
     where
       P : Decision → Type 0
-      P = Only room (anchored new) (anchorRecord new .raw ≡ anchored new)
+      P = Decided room (anchored new) (anchorRecord new .raw ≡ anchored new)
 
       wrote : P (pick (isDone (anchorRecord new .answer)) (write room (anchorRecord new .raw) 0) (refuse (anchorRecord new .answer)))
       wrote =
           by-test P (isDone (anchorRecord new .answer)) _ _
-          (λ e. subst (λ (r : Raw). P (write room r 0)) (sym (anchor-record new e)) (only-write room (anchored new) (anchorRecord new .raw ≡ anchored new) 0 (anchor-record new e)))
-          (λ _ h. absurd (false≢true h))
+          (λ e. subst (λ (r : Raw). P (write room r 0)) (sym (anchor-record new e)) (decided-write room (anchored new) (anchorRecord new .raw ≡ anchored new) 0 (anchor-record new e)))
+          (λ e. refuses (anchorRecord new .answer) e)
 
 -- ---- and so may be written
 -- the value at a key's place is the value of the record held
@@ -164,11 +174,11 @@ unfolding heldOf leNumber
 held-blank tag id t = by-test (λ (o : OptRaw). o .some ≡ false → valueIn (o .raw .body) ≡ 0) (holds tag id t) _ _ (λ _ e. absurd (false≢true (sym e))) (λ _ e. refl)
 
 module _ (r : Raw) (w : Whole r) (tagged : r .tag ≡ 0xFF → ⊥) (t : List Raw) where
-  pub only-writable : (Q : Type 0) (d : Decision) → (Q → falls r (getD t (placeOf (r .tag) (r .id) t) nowhere) ≡ false) → Only (roomFor (r .tag) (r .id) t) r Q d → d .write ≡ true → Writes d r t
+  pub decided-writable : (Q : Type 0) (d : Decision) → (Q → falls r (getD t (placeOf (r .tag) (r .id) t) nowhere) ≡ false) → Decided (roomFor (r .tag) (r .id) t) r Q d → d .write ≡ true → Writes d r t
   unfolding roomFor
-  only-writable Q d rises only e =
-      let o = only e in
-      record { rec-is = o .1; may = record { whole = w; tagged = tagged; room = o .0; rises = rises (o .2) } }
+  decided-writable Q d rises (refuses a f) e = absurd (false≢true e)
+  decided-writable Q d rises (gives value) e = absurd (false≢true e)
+  decided-writable Q d rises (writes value room q) e = record { rec-is = refl; may = record { whole = w; tagged = tagged; room = room; rises = rises q } }
 
 -- what is decided on the record of a key writes this record, whatever the log holds
 abbrev pub Sound : ℕ → ℕ → (OptRaw → Bool → Decision) → (List Raw → Raw) → Type 0
@@ -177,8 +187,8 @@ Sound tag id decision r = (t : List Raw) → AllWhole t → decision (heldOf tag
 pub put-sound : (credential : ℕ) (new : CounterState) → credential < 256 → TypedCounter new → Sound counterTag credential (λ (held : OptRaw) (room : Bool). putDecision held room credential new) (λ t. counterRecord credential new)
 unfolding isMonotonic
 put-sound credential new h typed t _ =
-    only-writable (counterRecord credential new) (counter-whole credential new h typed) (λ e. omega arith) t (Unit {0}) (putDecision (heldOf counterTag credential t) (roomFor counterTag credential t) credential new)
-    (λ _. steady (counterRecord credential new) (getD t (placeOf counterTag credential t) nowhere) refl) (put-only (heldOf counterTag credential t) (roomFor counterTag credential t) credential new)
+    decided-writable (counterRecord credential new) (counter-whole credential new h typed) (λ e. omega arith) t (Unit {0}) (putDecision (heldOf counterTag credential t) (roomFor counterTag credential t) credential new)
+    (λ _. steady (counterRecord credential new) (getD t (placeOf counterTag credential t) nowhere) refl) (put-decided (heldOf counterTag credential t) (roomFor counterTag credential t) credential new)
 
 -- a value that rises over the record held
 pub value-rises : (id new : ℕ) (t : List Raw) → Rises (heldOf valueTag id t) (roomFor valueTag id t) id new → falls (valueRecord id new) (getD t (placeOf valueTag id t) nowhere) ≡ false
@@ -187,17 +197,17 @@ value-rises id new t e = ap₂ (λ (x y : ℕ). isMonotonic valueTag id && ltb x
 
 pub value-sound : (id new : ℕ) → id < 256 → new < 2 ^ 64 → Sound valueTag id (λ (held : OptRaw) (room : Bool). valueDecision held room id new) (λ t. valueRecord id new)
 value-sound id new h k t _ =
-    only-writable (valueRecord id new) (value-whole id new h k) (λ e. omega arith) t (Rises (heldOf valueTag id t) (roomFor valueTag id t) id new) (valueDecision (heldOf valueTag id t) (roomFor valueTag id t) id new)
-    (value-rises id new t) (value-only (heldOf valueTag id t) (roomFor valueTag id t) id new (held-blank valueTag id t))
+    decided-writable (valueRecord id new) (value-whole id new h k) (λ e. omega arith) t (Rises (heldOf valueTag id t) (roomFor valueTag id t) id new) (valueDecision (heldOf valueTag id t) (roomFor valueTag id t) id new)
+    (value-rises id new t) (value-decided (heldOf valueTag id t) (roomFor valueTag id t) id new (held-blank valueTag id t))
 
 pub anchor-writes : (new : Anchor) → TypedAnchor new → (t : List Raw) → anchorDecision (heldOf anchorTag 0 t) (roomFor anchorTag 0 t) new .write ≡ true
     → Writes (anchorDecision (heldOf anchorTag 0 t) (roomFor anchorTag 0 t) new) (anchorRecord new .raw) t
 unfolding isMonotonic
 anchor-writes new typed t e =
     let d = anchorDecision (heldOf anchorTag 0 t) (roomFor anchorTag 0 t) new in
-    let only = anchor-only (heldOf anchorTag 0 t) (roomFor anchorTag 0 t) new in
-    subst (λ (r : Raw). Writes d r t) (sym (only e .2))
-    (only-writable (anchored new) (anchor-whole new typed) (λ z. omega arith) t (anchorRecord new .raw ≡ anchored new) d (λ _. steady (anchored new) (getD t (placeOf anchorTag 0 t) nowhere) refl) only e)
+    let made = anchor-decided (heldOf anchorTag 0 t) (roomFor anchorTag 0 t) new in
+    subst (λ (r : Raw). Writes d r t) (sym (decided-holds (roomFor anchorTag 0 t) (anchored new) (anchorRecord new .raw ≡ anchored new) d made e))
+    (decided-writable (anchored new) (anchor-whole new typed) (λ z. omega arith) t (anchorRecord new .raw ≡ anchored new) d (λ _. steady (anchored new) (getD t (placeOf anchorTag 0 t) nowhere) refl) made e)
 
 pub anchor-sound : (new : Anchor) → TypedAnchor new → Sound anchorTag 0 (λ (held : OptRaw) (room : Bool). anchorDecision held room new) (λ t. anchorRecord new .raw)
 anchor-sound new typed t _ = anchor-writes new typed t

@@ -1,6 +1,6 @@
 -- What spend, set and advance_lamport decide to write may be written: the counter or value held is of bytes, and so is the next one.
 use mathlib.Core.Path.{_≡_, refl, ap, subst, _∙_}
-use mathlib.Core.Bool.{Bool, true, false, _&&_, and-false, false≢true}
+use mathlib.Core.Bool.{Bool, true, false, _&&_, and-false}
 use mathlib.Core.List.{List, [], _∷_}
 use Prim.Native.Nat.{ℕ, zero, suc, _+_, _≤_, _<_, _^_, max}
 use native.Mathlib.Omega.{arith}
@@ -34,7 +34,7 @@ use Rattle.tries.specs.Tries.{startOf, spentBy, spendFrom, spendDecision, setDe
 use Rattle.basics.specs.declared.Answer.the-variants.{WriteError}
 use Rattle.demands.specs.Typed.{TypedCounter}
 use Rattle.demands.proofs.Performing.{Writes}
-use Rattle.demands.proofs.Deciding.{counter-whole, value-whole, Only, only-write, steady, held-blank, only-writable, Sound, value-rises}
+use Rattle.demands.proofs.Deciding.{counter-whole, value-whole, Decided, refuses, gives, decided-write, decided-holds, steady, held-blank, decided-writable, Sound, value-rises}
 
 -- ---- the record held is of bytes
 none-whole : Whole noRaw
@@ -66,6 +66,23 @@ module _ (r : Raw) (w : Whole r) where
   value-fits : valueIn (r .body) < 2 ^ 64
   value-fits = part-fits 2 8 (omega arith)
 
+-- ---- spend and set: a total below the highest has one more
+pub spend-decided : (room : Bool) (credential : ℕ) (s : CounterState) → Decided room (counterRecord credential (oneMore s)) (s .total ≡ totalMax → ⊥) (spendFrom s room credential)
+unfolding spendFrom failedOf
+spend-decided room credential s =
+    by-test P (eqb (remainingOf s) 0) _ _ (λ _. gives 0)
+    (λ _. by-test (λ (x : Next). P (spentBy room credential (remainingOf s) x)) (eqb (s .total) totalMax) (next.Refused WriteError) (next.State (oneMore s)) (λ _. refuses WriteError refl)
+    (λ e. decided-write room (counterRecord credential (oneMore s)) (s .total ≡ totalMax → ⊥) (remainingOf s) (eqb-false (s .total) totalMax e)))
+  where
+    P : Decision → Type 0
+    P = Decided room (counterRecord credential (oneMore s)) (s .total ≡ totalMax → ⊥)
+
+pub set-decided : (held : OptRaw) (room : Bool) (credential tries : ℕ) → Decided room (counterRecord credential (resetOf (startOf held tries) tries)) (Unit {0}) (setDecision held room credential tries)
+unfolding setDecision
+set-decided held room credential tries =
+    let r = counterRecord credential (resetOf (startOf held tries) tries) in
+    by-test (Decided room r (Unit {0})) (held .some && eqb (remainingOf (startOf held tries)) tries) _ _ (λ _. gives 0) (λ _. decided-write room r (Unit {0}) 0 tt)
+
 module _ (t : List Raw) (w : AllWhole t) (credential : ℕ) (fits : credential < 256) where
   abbrev held : OptRaw
   held = heldOf counterTag credential t
@@ -83,37 +100,23 @@ module _ (t : List Raw) (w : AllWhole t) (credential : ℕ) (fits : credential <
   CounterWrites s d = d .write ≡ true → Writes d (counterRecord credential s) t
 
   -- what is written of a counter
-  counter-writes : (s : CounterState) (Q : Type 0) (d : Decision) → (Q → TypedCounter s) → Only room (counterRecord credential s) Q d → CounterWrites s d
+  counter-writes : (s : CounterState) (Q : Type 0) (d : Decision) → (Q → TypedCounter s) → Decided room (counterRecord credential s) Q d → CounterWrites s d
   unfolding isMonotonic
-  counter-writes s Q d typed only e =
-      only-writable (counterRecord credential s) (counter-whole credential s fits (typed (only e .2))) (λ z. omega arith) t Q d
-      (λ _. steady (counterRecord credential s) (getD t (placeOf counterTag credential t) nowhere) refl) only e
-
-  -- spend: a total below the highest has one more
-  spend-only : (s : CounterState) → Only room (counterRecord credential (oneMore s)) (s .total ≡ totalMax → ⊥) (spendFrom s room credential)
-  unfolding spendFrom failedOf
-  spend-only s =
-      by-test P (eqb (remainingOf s) 0) _ _ (λ _ h. absurd (false≢true h))
-      (λ _. by-test (λ (x : Next). P (spentBy room credential (remainingOf s) x)) (eqb (s .total) totalMax) (next.Refused WriteError) (next.State (oneMore s)) (λ _ h. absurd (false≢true h))
-      (λ e. only-write room (counterRecord credential (oneMore s)) (s .total ≡ totalMax → ⊥) (remainingOf s) (eqb-false (s .total) totalMax e)))
-    where
-      P : Decision → Type 0
-      P = Only room (counterRecord credential (oneMore s)) (s .total ≡ totalMax → ⊥)
+  counter-writes s Q d typed made e =
+      decided-writable (counterRecord credential s) (counter-whole credential s fits (typed (decided-holds room (counterRecord credential s) Q d made e))) (λ z. omega arith) t Q d
+      (λ _. steady (counterRecord credential s) (getD t (placeOf counterTag credential t) nowhere) refl) made e
 
   pub spend-writes : (current : ℕ) → current < 256 → CounterWrites (oneMore (startOf held current)) (spendDecision held room credential current)
   spend-writes current h =
       let s = startOf held current in
       let typed = start-typed current h in
       counter-writes (oneMore s) (s .total ≡ totalMax → ⊥) (spendDecision held room credential current)
-      (λ most. record { total = omega (arith, typed .total); at-reset = typed .at-reset; allowance = typed .allowance }) (spend-only s)
+      (λ most. record { total = omega (arith, typed .total); at-reset = typed .at-reset; allowance = typed .allowance }) (spend-decided room credential s)
 
   pub set-writes : (tries : ℕ) → tries < 256 → CounterWrites (resetOf (startOf held tries) tries) (setDecision held room credential tries)
-  unfolding setDecision
   set-writes tries h =
-      let s = startOf held tries in
       let typed = start-typed tries h in
-      counter-writes (resetOf s tries) (Unit {0}) (setDecision held room credential tries) (λ _. record { total = typed .total; at-reset = typed .total; allowance = h })
-      (by-test (Only room (counterRecord credential (resetOf s tries)) (Unit {0})) (held .some && eqb (remainingOf s) tries) _ _ (λ _ e. absurd (false≢true e)) (λ _. only-write room (counterRecord credential (resetOf s tries)) (Unit {0}) 0 tt))
+      counter-writes (resetOf (startOf held tries) tries) (Unit {0}) (setDecision held room credential tries) (λ _. record { total = typed .total; at-reset = typed .total; allowance = h }) (set-decided held room credential tries)
 
 pub spend-sound : (credential current : ℕ) → credential < 256 → current < 256
     → Sound counterTag credential (λ (held : OptRaw) (room : Bool). spendDecision held room credential current) (λ t. counterRecord credential (oneMore (startOf (heldOf counterTag credential t) current)))
@@ -134,21 +137,21 @@ module _ (held : OptRaw) (room : Bool) (seen : ℕ) where
   most-above : (held .some ≡ false → valueIn (held .raw .body) ≡ 0) → valueIn (held .raw .body) ≤ most + 1
   most-above blank = by-test (λ (m : ℕ). valueIn (held .raw .body) ≤ m + 1) (held .some) (max (valueIn (held .raw .body)) seen) seen (λ _. omega arith) (λ e. omega (arith, blank e))
 
-  advance-only : Only room (valueRecord lamport (most + 1)) (most ≡ lamportMax → ⊥) (advanceFrom most room)
+  pub advance-decided : Decided room (valueRecord lamport (most + 1)) (most ≡ lamportMax → ⊥) (advanceFrom most room)
   unfolding advanceFrom
-  advance-only =
-      by-test (Only room (valueRecord lamport (most + 1)) (most ≡ lamportMax → ⊥)) (eqb most lamportMax) _ _ (λ _ h. absurd (false≢true h))
-      (λ e. only-write room (valueRecord lamport (most + 1)) (most ≡ lamportMax → ⊥) (most + 1) (eqb-false most lamportMax e))
+  advance-decided =
+      by-test (Decided room (valueRecord lamport (most + 1)) (most ≡ lamportMax → ⊥)) (eqb most lamportMax) _ _ (λ _. refuses WriteError refl)
+      (λ e. decided-write room (valueRecord lamport (most + 1)) (most ≡ lamportMax → ⊥) (most + 1) (eqb-false most lamportMax e))
 
 pub advance-sound : (seen : ℕ) → seen < 2 ^ 64
     → Sound valueTag lamport (λ (held : OptRaw) (room : Bool). advanceDecision held room seen) (λ t. valueRecord lamport (seenOf (heldOf valueTag lamport t) seen + 1))
 advance-sound seen h t w e =
     let held = heldOf valueTag lamport t in
     let room = roomFor valueTag lamport t in
-    let only = advance-only held room seen in
+    let made = advance-decided held room seen in
     let new = seenOf held seen + 1 in
-    let unlike = only e .2 in
+    let unlike = decided-holds room (valueRecord lamport (seenOf held seen + 1)) (seenOf held seen ≡ lamportMax → ⊥) (advanceDecision held room seen) made e in
     let fits = most-fits held room seen (value-fits (held .raw) (held-whole valueTag lamport t w)) h in
     let above = most-above held room seen (held-blank valueTag lamport t) in
-    only-writable (valueRecord lamport new) (value-whole lamport new (omega arith) (omega arith)) (λ z. omega arith) t (seenOf held seen ≡ lamportMax → ⊥) (advanceDecision held room seen)
-    (λ _. value-rises lamport new t (ap (λ (b : Bool). isMonotonic valueTag lamport && b) (le-ltb new (valueIn (held .raw .body)) above) ∙ and-false (isMonotonic valueTag lamport))) only e
+    decided-writable (valueRecord lamport new) (value-whole lamport new (omega arith) (omega arith)) (λ z. omega arith) t (seenOf held seen ≡ lamportMax → ⊥) (advanceDecision held room seen)
+    (λ _. value-rises lamport new t (ap (λ (b : Bool). isMonotonic valueTag lamport && b) (le-ltb new (valueIn (held .raw .body)) above) ∙ and-false (isMonotonic valueTag lamport))) made e
