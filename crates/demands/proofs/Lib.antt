@@ -19,3 +19,4 @@ pub mod Deciding
 pub mod Trying
 pub mod Calls
 pub mod Demand3
+pub mod Courses
