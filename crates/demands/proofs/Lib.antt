@@ -20,3 +20,4 @@ pub mod Trying
 pub mod Calls
 pub mod Demand3
 pub mod Courses
+pub mod Demand1

@@ -6,3 +6,5 @@ pub mod Typed
 pub mod Calls
 pub mod Sessions
 pub mod Demand3
+pub mod Demand1
+pub mod Wear
