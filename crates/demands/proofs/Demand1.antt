@@ -1,16 +1,16 @@
 -- Demand 1: a call that fails a test is refused before anything else, and a write answers 0, 6 or 7 only.
-use mathlib.Core.Path.{_≡_, refl, sym, ap, subst, _∙_}
+use mathlib.Core.Path.{_≡_, refl, sym, ap, _∙_}
 use mathlib.Core.Bool.{Bool, true, false, false≢true}
 use mathlib.Core.List.{List, [], _∷_}
 use Prim.Native.Nat.{ℕ, zero, suc, _+_}
-use lib.Dec.{eqb, ltb}
+use lib.Dec.{eqb}
 use lib.ListN.{length}
 use borrow.Author.Tests.{eq-eqb, ne-eqb}
 use Rattle.basics.specs.Choice.{pick}
-use Rattle.basics.specs.Lists.{same, allAre}
+use Rattle.basics.specs.Lists.{same}
 use Rattle.basics.specs.Answers.{isDone}
 use Rattle.basics.specs.declared.Answer.{Answer}
-use Rattle.basics.specs.declared.Answer.the-variants.{Done, BadImage, BadLog, BadId, WriteError, EraseError}
+use Rattle.basics.specs.declared.Answer.the-variants.{Done, BadImage, BadLog, BadId, WriteError}
 use Rattle.basics.proofs.Choice.{by-test}
 use Rattle.codec.specs.declared.Raw.{Raw}
 use Rattle.codec.specs.Slots.{slotOf, headerSlot}

@@ -21,3 +21,4 @@ pub mod Calls
 pub mod Demand3
 pub mod Courses
 pub mod Demand1
+pub mod Wearing

@@ -65,7 +65,7 @@ module _ (r : Raw) (t : List Raw) where
           let past = ltb-false at (length t) e in
           inr (omega (arith, place-most (r .tag) (r .id) t), sym (place-holds (r .tag) (r .id) t) ∙ e)
 
-  join-few : hasRoom limit r t ≡ true → length t ≤ limit → length (joined r t) ≤ limit
+  pub join-few : hasRoom limit r t ≡ true → length t ≤ limit → length (joined r t) ≤ limit
   join-few room few = go held-or-new
     where
       go : Held ⊎ New → length (joined r t) ≤ limit

@@ -12,7 +12,7 @@ use Rattle.flash.specs.Image.{sectorsIn}
 use Rattle.records.specs.declared.Log.{Log}
 use Rattle.fitting.specs.Fitting.{logFits}
 use Rattle.seeding.specs.Seeds.{seedsKnown}
-use Rattle.performing.specs.Outcomes.{Outcome, flashOf, refused}
+use Rattle.performing.specs.Outcomes.{flashOf, refused}
 use Rattle.demands.specs.Calls.{Call, put, put-value, put-anchor, format, spend, set-tries, advance-lamport, outcomeOf}
 
 -- 1 to 5, 8 and 9 leave "all unchanged"
