@@ -89,8 +89,8 @@ module _ (image : List ℕ) (log : Log) (plan : Plan) where
     given : (value : ℕ) → Course (record { answer = Done; value = value; log = log; flash = f })
     appends : logFits n log ≡ true → (s seq head : ℕ) → log .state ≡ Active s seq head → (r : Raw) (value : ℕ) → hasRoom limit r t ≡ true
         → Course (wroteOutcome (appendOf n s seq head next r (joined r t) f) value (joined r t) t)
-    formats : 0 < n → log .state ≡ Unformatted → (new : List Raw) → length new ≤ 8 → Course (wroteOutcome (commitFirst n new Unformatted next f) 0 new [])
-    anchors : 0 < n → log .state ≡ Unformatted → isDone (emptied .answer) ≡ true → (s seq : ℕ) → s < n → emptied .state ≡ Active s seq 1 → (r : Raw) (value : ℕ)
+    formats : logFits n log ≡ true → 0 < n → log .state ≡ Unformatted → (new : List Raw) → length new ≤ 8 → Course (wroteOutcome (commitFirst n new Unformatted next f) 0 new [])
+    anchors : logFits n log ≡ true → 0 < n → log .state ≡ Unformatted → isDone (emptied .answer) ≡ true → (s seq : ℕ) → s < n → emptied .state ≡ Active s seq 1 → (r : Raw) (value : ℕ)
         → Course (wroteOutcome (appendOf n s seq 1 (emptied .next) r (joined r []) (emptied .flash)) value (joined r []) [])
 
   -- ---- tests, then the rest
@@ -126,12 +126,12 @@ module _ (image : List ℕ) (log : Log) (plan : Plan) where
       (λ some fits known.
       let few = leb-true count 8 (first (leb count 8) (allKnown (take count seeds)) known) in
       let most : length (take count seeds) ≤ 8 = simp length-take (omega arith) in
-      go (omega arith) (omega (arith, seeded-most (take count seeds) [])) (log .state) refl)
+      go fits (omega arith) (omega (arith, seeded-most (take count seeds) [])) (log .state) refl)
     where
-      go : 0 < n → length (seedTable seeds count) ≤ 8 → (z : State) → log .state ≡ z → Course (formatOn z (seedTable seeds count) n log f)
-      go some few Unformatted e = subst (λ (z : State). Course (wroteOutcome (commitFirst n (seedTable seeds count) z next f) 0 (seedTable seeds count) [])) (sym e) (formats some e (seedTable seeds count) few)
-      go some few Failed e = refusal WriteError refl
-      go some few (Active s seq head) e = refusal WriteError refl
+      go : logFits n log ≡ true → 0 < n → length (seedTable seeds count) ≤ 8 → (z : State) → log .state ≡ z → Course (formatOn z (seedTable seeds count) n log f)
+      go fits some few Unformatted e = subst (λ (z : State). Course (wroteOutcome (commitFirst n (seedTable seeds count) z next f) 0 (seedTable seeds count) [])) (sym e) (formats fits some e (seedTable seeds count) few)
+      go fits some few Failed e = refusal WriteError refl
+      go fits some few (Active s seq head) e = refusal WriteError refl
 
   -- ---- put_anchor
   module _ (new : Anchor) where
@@ -139,16 +139,16 @@ module _ (image : List ℕ) (log : Log) (plan : Plan) where
     made u = anchorDecision (heldOf anchorTag 0 u) (roomFor anchorTag 0 u) new
 
     -- after its own format the first anchor is written into the first slot
-    first-course : 0 < n → log .state ≡ Unformatted → isFirst new ≡ true → isDone (emptied .answer) ≡ true → Course (performed (whenActive (emptied .state) (made [])) n (logOf (emptied .state) (emptied .next) []) (emptied .flash))
+    first-course : logFits n log ≡ true → 0 < n → log .state ≡ Unformatted → isFirst new ≡ true → isDone (emptied .answer) ≡ true → Course (performed (whenActive (emptied .state) (made [])) n (logOf (emptied .state) (emptied .next) []) (emptied .flash))
     unfolding performed
-    first-course some e firstly d =
+    first-course fits some e firstly d =
         let fresh = commit-fresh n n n 0 [] WriteError Unformatted next f some refl d in
         let zero-seq = eqb-true (new .«head_seq») 0 (first (eqb (new .«head_seq») 0) (eqb (new .«head_slot») 0) firstly) in
         let writing = anchor-first-writes new (ap isDone (anchor-made new (omega arith))) in
         subst (λ (z : State). Course (performed (whenActive z (made [])) n (logOf z (emptied .next) []) (emptied .flash))) (sym (fresh .state-is))
         (subst (λ (b : Bool). Course (pick b (appended (Active (fresh .sector) (fresh .seq) 1) n (made [] .rec) (made [] .value) (logOf (Active (fresh .sector) (fresh .seq) 1) (emptied .next) []) (emptied .flash))
         (record { answer = made [] .answer; value = made [] .value; log = logOf (Active (fresh .sector) (fresh .seq) 1) (emptied .next) []; flash = emptied .flash }))) (sym (writing .0))
-        (anchors some e d (fresh .sector) (fresh .seq) (fresh .within) (fresh .state-is) (made [] .rec) (made [] .value)))
+        (anchors fits some e d (fresh .sector) (fresh .seq) (fresh .within) (fresh .state-is) (made [] .rec) (made [] .value)))
 
     anchored-course : 0 < n → logFits n log ≡ true → (z : State) → log .state ≡ z → Course (anchored z new n log f)
     unfolding anchoredFirst
@@ -161,8 +161,8 @@ module _ (image : List ℕ) (log : Log) (plan : Plan) where
         by-format k =
             subst (λ (z : State). Course (pick (isDone (o z .answer)) (anchorCall new n (o z .log) (o z .flash)) (o z))) (sym e)
             (by-test Course (isDone (emptied .answer)) _ _
-            (λ d. subst (λ (u : List Raw). Course (anchorCall new n (logOf (emptied .state) (emptied .next) u) (emptied .flash))) (sym (ap (λ (b : Bool). pick b [] []) d)) (first-course some e k d))
-            (λ d. formats some e [] (omega arith)))
+            (λ d. subst (λ (u : List Raw). Course (anchorCall new n (logOf (emptied .state) (emptied .next) u) (emptied .flash))) (sym (ap (λ (b : Bool). pick b [] []) d)) (first-course fits some e k d))
+            (λ d. formats fits some e [] (omega arith)))
     anchored-course some fits Failed e = refusal ReadError refl
     anchored-course some fits (Active s seq head) e =
         performed-course fits (record { tag = anchorTag; id = 0; body = anchorBody new }) (anchorRecord new .raw ≡ record { tag = anchorTag; id = 0; body = anchorBody new }) (log .state) refl (made t)

@@ -104,8 +104,8 @@ module _ (image : List ℕ) (log : Log) (plan : Plan) where
   course-unchanged o (refusal a k) e = refl
   course-unchanged o (given value) e = absurd (false≢true e)
   course-unchanged o (appends fits s seq head k r value room) e = absurd (false≢true (sym (append-answers n s seq head (log .«next_seq») r _ f) ∙ e))
-  course-unchanged o (formats some k new few) e = absurd (false≢true (sym (commit-answers n n n 0 new WriteError Unformatted (log .«next_seq») f refl) ∙ e))
-  course-unchanged o (anchors some k d s seq within z r value) e = absurd (false≢true (sym (append-answers n s seq 1 _ r _ _) ∙ e))
+  course-unchanged o (formats fits some k new few) e = absurd (false≢true (sym (commit-answers n n n 0 new WriteError Unformatted (log .«next_seq») f refl) ∙ e))
+  course-unchanged o (anchors fits some k d s seq within z r value) e = absurd (false≢true (sym (append-answers n s seq 1 _ r _ _) ∙ e))
 
   entered-refuses : (known : Bool) (call : ℕ → Log → Flash → Outcome) (a : Answer) → entryAnswer n log known ≡ a → isDone a ≡ false → entered image log plan known call ≡ refused a log f
   unfolding entered

@@ -1,12 +1,12 @@
 -- What a write that failed leaves: the state but for head, and the active sector's bytes but for the slots tried.
-use mathlib.Core.Path.{_≡_, refl, sym, ap, _∙_}
-use mathlib.Core.Bool.{true, false, false≢true}
-use mathlib.Core.List.{List}
+use mathlib.Core.Path.{_≡_, refl, sym, ap, subst, _∙_}
+use mathlib.Core.Bool.{Bool, true, false, false≢true}
+use mathlib.Core.List.{List, []}
 use mathlib.Core.Logic.{_⊎_, inl, inr}
 use Prim.Native.Nat.{ℕ, zero, suc, _+_, _≤_, _<_}
 use native.Mathlib.Omega.{arith}
 use lib.Dec.{eqb}
-use lib.ListN.{length}
+use lib.ListN.{length, length-take}
 use borrow.Author.Tests.{eqb-true}
 use Rattle.basics.specs.Choice.{pick}
 use Rattle.basics.specs.Answers.{isDone}
@@ -15,15 +15,29 @@ use Rattle.basics.specs.declared.Answer.the-variants.{WriteError}
 use Rattle.basics.proofs.Choice.{by-test}
 use Rattle.codec.specs.declared.Raw.{Raw}
 use Rattle.codec.specs.Slots.{slotOf}
-use Rattle.flash.specs.Image.{slotAt}
+use Rattle.flash.specs.Image.{slotAt, sectorsIn}
 use Rattle.flash.specs.Run.{Flash, program, erase}
 use Rattle.flash.proofs.View.{Fits}
 use Rattle.flash.proofs.Steps.{program-fits, program-beside, program-apart, erase-fits, erase-apart}
 use Rattle.records.specs.declared.State.{State}
-use Rattle.records.specs.declared.State.the-variants.{Active}
+use Rattle.records.specs.declared.State.the-variants.{Active, Unformatted}
 use Rattle.writing.specs.Sectors.{writeSector}
-use Rattle.writing.specs.Commits.{Wrote, after, commitFrom, commitAfter}
+use Rattle.writing.specs.Commits.{Wrote, after, commitFrom, commitAfter, commitFirst}
 use Rattle.writing.specs.Appends.{Tried, triesFrom, appendOf}
+use Rattle.flash.specs.declared.Plan.{Plan}
+use Rattle.flash.proofs.Geometry.{sectors-whole}
+use Rattle.records.specs.declared.Log.{Log}
+use Rattle.records.specs.Table.{limit, joined, hasRoom}
+use Rattle.records.specs.Logs.{logOf, recordsOf}
+use Rattle.records.proofs.Places.{places-take}
+use Rattle.fitting.specs.Fitting.{logFits}
+use Rattle.fitting.proofs.Laws.{fits-clauses, fits-active, fits-unformatted}
+use Rattle.performing.specs.Outcomes.{Outcome, flashOf}
+use Rattle.performing.specs.Performing.{wroteOutcome}
+use Rattle.demands.specs.Calls.{Call, outcomeOf}
+use Rattle.demands.specs.Leaves.{Spares, Leaves}
+use Rattle.demands.proofs.Tables.{join-few}
+use Rattle.demands.proofs.Courses.{Course, refusal, given, appends, formats, anchors, call-course}
 use Rattle.demands.proofs.Endings.{Fails}
 use Rattle.demands.proofs.Tracing.{append-trace}
 
@@ -125,3 +139,62 @@ append-state n s seq head next r t f = go (triesFrom 3 s head (slotOf seq r) Wri
         by-test (λ (w : Wrote). Fails (w .answer) → Tries s seq head (w .state)) (o .full) _ _
         (λ e d. record { head-now = o .head; state-is = commit-state n n s (after n s) t WriteError (Active s seq (o .head)) next (o .flash) refl d; past = inl (h .0 e) })
         (λ e d. record { head-now = o .head; state-is = refl; past = inr (h .1 e d) })
+
+-- ---- calls
+module _ (image : List ℕ) (log : Log) (plan : Plan) where
+  abbrev n : ℕ
+  n = sectorsIn (length image)
+
+  abbrev f : Flash
+  f = flashOf image plan
+
+  abbrev t : List Raw
+  t = recordsOf log
+
+  unlike : (x q h : ℕ) → log .state ≡ Unformatted → log .state ≡ Active x q h → ⊥
+  unlike x q h a b = let never : _≡_ {A = ℕ} 0 1 = cc in omega arith
+
+  -- two names of one Active state
+  active-same : (s seq head x q h : ℕ) → log .state ≡ Active s seq head → log .state ≡ Active x q h → (s ≡ x) × (seq ≡ q) × (head ≡ h)
+  active-same s seq head x q h a b = (cc, cc, cc)
+
+  -- a log that failed to change holds what it held
+  failed-table : (w : Wrote) (value : ℕ) (new old : List Raw) → Fails (w .answer) → recordsOf (wroteOutcome w value new old .log) ≡ old
+  failed-table w value new old e = ap (λ (b : Bool). recordsOf (logOf (w .state) (w .next) (pick b new old))) e ∙ places-take old
+
+  append-spares : logFits n log ≡ true → (s seq head : ℕ) → log .state ≡ Active s seq head → (r : Raw) (value : ℕ) → hasRoom limit r t ≡ true
+      → Fails (appendOf n s seq head (log .«next_seq») r (joined r t) f .answer) → Spares s seq head image (wroteOutcome (appendOf n s seq head (log .«next_seq») r (joined r t) f) value (joined r t) t)
+  append-spares fits s seq head e r value room failed =
+      let placed = fits-active n log fits s seq head e in
+      let tried = append-state n s seq head (log .«next_seq») r (joined r t) f failed in
+      let held : length t ≤ limit = simp length-take (omega (arith, fits-clauses n log fits .few)) in
+      let few = join-few r t room held in
+      let kept = append-keeps n s seq head (log .«next_seq») r (joined r t) f (placed .within) (placed .high) (omega arith) in
+      let size = sectors-whole (length image) (omega (arith, placed .within)) in
+      record { head-now = tried .head-now; state-is = tried .state-is; bytes = λ i u o. kept .same size i u (outside (tried .head-now) i u (tried .past) o) }
+    where
+      outside : (now i : ℕ) → i < 256 → (now ≡ 256) ⊎ (now ≡ head + 3) → (i < head) ⊎ (now ≤ i) → (i < head) ⊎ (head + 3 ≤ i)
+      outside now i u p (inl l) = inl l
+      outside now i u (inl p) (inr l) = absurd (omega arith)
+      outside now i u (inr p) (inr l) = inr (omega arith)
+
+  course-leaves : (o : Outcome) → Course image log plan o → Fails (o .answer) → Leaves image log o
+  course-leaves o (refusal a k) e = record { table = refl; sector = λ s seq head z. record { head-now = head; state-is = z; bytes = λ i u v. refl } }
+  course-leaves o (given value) e = absurd (false≢true (sym e))
+  course-leaves o (appends fits s seq head z r value room) e = record {
+    table = failed-table (appendOf n s seq head (log .«next_seq») r (joined r t) f) value (joined r t) t e;
+    sector = λ x q h y.
+        let same = active-same s seq head x q h z y in
+        subst (λ (b : ℕ). Spares b q h image o) (same .0) (subst (λ (b : ℕ). Spares s b h image o) (same .1) (subst (λ (b : ℕ). Spares s seq b image o) (same .2) (append-spares fits s seq head z r value room e)));
+  }
+  course-leaves o (formats fits some z new few) e = record {
+    table = failed-table (commitFirst n new Unformatted (log .«next_seq») f) 0 new [] e ∙ sym (fits-unformatted n log fits z);
+    sector = λ x q h y. absurd (unlike x q h z y);
+  }
+  course-leaves o (anchors fits some z d s seq within k r value) e = record {
+    table = failed-table (appendOf n s seq 1 _ r (joined r []) _) value (joined r []) [] e ∙ sym (fits-unformatted n log fits z);
+    sector = λ x q h y. absurd (unlike x q h z y);
+  }
+
+  pub call-leaves : (c : Call) → Fails (outcomeOf c image log plan .answer) → Leaves image log (outcomeOf c image log plan)
+  call-leaves c = course-leaves (outcomeOf c image log plan) (call-course image log plan c)

@@ -14,7 +14,6 @@ pub mod Succeeding
 pub mod First
 pub mod Tracing
 pub mod Wear
-pub mod Leaving
 pub mod Deciding
 pub mod Trying
 pub mod Calls
@@ -22,3 +21,5 @@ pub mod Demand3
 pub mod Courses
 pub mod Demand1
 pub mod Wearing
+pub mod Leaving
+pub mod Demand2

@@ -64,9 +64,9 @@ module _ (image : List ℕ) (log : Log) (plan : Plan) where
       wears-by image plan o 7968 61440 (omega arith) (omega arith)
       (append-paid n s seq head next r (joined r (recordsOf log)) f (placed .within) (placed .high))
       (append-costs (joined r (recordsOf log)) n few s seq head next r f (placed .within) most)
-  course-wears o (formats some e new most) =
+  course-wears o (formats fits some e new most) =
       wears-by image plan o 2304 65536 (omega arith) (omega arith) (commit-paid n n new n 0 WriteError Unformatted next f some) (first-costs new n few Unformatted next f most)
-  course-wears o (anchors some e d s seq within z r value) =
+  course-wears o (anchors fits some e d s seq within z r value) =
       let w = commitFirst n [] Unformatted next f in
       let none : length {A = Raw} [] ≤ 8 = omega arith in
       wears-by image plan o 2352 65536 (omega arith) (omega arith)

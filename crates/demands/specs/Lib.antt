@@ -8,3 +8,5 @@ pub mod Sessions
 pub mod Demand3
 pub mod Demand1
 pub mod Wear
+pub mod Leaves
+pub mod Demand2
