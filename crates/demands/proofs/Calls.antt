@@ -86,14 +86,24 @@ module _ (image : List ℕ) (log : Log) (i : Inv image log) where
   active-writes d r sound Failed e = absurd (false≢true e)
   active-writes d r sound (Active sector seq head) e = sound e
 
-  pub keyed-safe : (known : Bool) (tag id : ℕ) (d : OptRaw → Bool → Decision) (r : List Raw → Raw) → Sound tag id d r → (plan : Plan)
-      → SafeCall (sectorsIn (length image)) (Unmatched (log .state) (r (recordsOf log))) (λ z. z ≡ seen log) (tableOf (entered image log healthy known (decided tag id d) .log)) (entered image log plan known (decided tag id d))
-  keyed-safe known tag id d r sound plan =
-      let made = decision tag id d in
-      let writes = active-writes (d (heldOf tag id (recordsOf log)) (roomFor tag id (recordsOf log))) (r (recordsOf log)) (sound (recordsOf log) (i .agrees .proper .whole)) (log .state) in
-      entered-safe image log i known (decided tag id d) (Unmatched (log .state) (r (recordsOf log))) (λ z. z ≡ seen log) refl plan (decidedTable made log)
-      (λ _. performed-safe (flashOf image plan) log refl i made (r (recordsOf log)) writes)
-      (λ _. performed-attains image log i made (λ e. writes-writable made (r (recordsOf log)) (recordsOf log) (writes e)))
+  module _ (known : Bool) (tag id : ℕ) (d : OptRaw → Bool → Decision) (r : List Raw → Raw) (sound : Sound tag id d r) where
+    made-writes : decision tag id d .write ≡ true → Writes (decision tag id d) (r (recordsOf log)) (recordsOf log)
+    made-writes = active-writes (d (heldOf tag id (recordsOf log)) (roomFor tag id (recordsOf log))) (r (recordsOf log)) (sound (recordsOf log) (i .agrees .proper .whole)) (log .state)
+
+    decided-safe : (plan : Plan) → SafeCall (sectorsIn (length image)) (Unmatched (log .state) (r (recordsOf log))) (λ z. z ≡ seen log) (decidedTable (decision tag id d) log) (decided tag id d (sectorsIn (length image)) log (flashOf image plan))
+    decided-safe plan = performed-safe (flashOf image plan) log refl i (decision tag id d) (r (recordsOf log)) made-writes
+
+    -- safe for the table that is decided on
+    pub keyed-decided : (plan : Plan) → SafeCall (sectorsIn (length image)) (Unmatched (log .state) (r (recordsOf log))) (λ z. z ≡ seen log) (decidedTable (decision tag id d) log) (entered image log plan known (decided tag id d))
+    unfolding entered
+    keyed-decided plan = run-safe image log i known (decided tag id d) (Unmatched (log .state) (r (recordsOf log))) (λ z. z ≡ seen log) refl plan (decidedTable (decision tag id d) log) (λ _. decided-safe plan)
+
+    -- and for the table that a healthy flash reaches
+    pub keyed-safe : (plan : Plan)
+        → SafeCall (sectorsIn (length image)) (Unmatched (log .state) (r (recordsOf log))) (λ z. z ≡ seen log) (tableOf (entered image log healthy known (decided tag id d) .log)) (entered image log plan known (decided tag id d))
+    keyed-safe plan =
+        entered-safe image log i known (decided tag id d) (Unmatched (log .state) (r (recordsOf log))) (λ z. z ≡ seen log) refl plan (decidedTable (decision tag id d) log) (λ _. decided-safe plan)
+        (λ _. performed-attains image log i (decision tag id d) (λ e. writes-writable (decision tag id d) (r (recordsOf log)) (recordsOf log) (made-writes e)))
 
   -- ---- format
   typed-take : (k : ℕ) (seeds : List Seed) → TypedSeeds seeds → TypedSeeds (take k seeds)

@@ -23,3 +23,4 @@ pub mod Demand1
 pub mod Wearing
 pub mod Leaving
 pub mod Demand2
+pub mod Spends

@@ -8,5 +8,6 @@ pub mod Sessions
 pub mod Demand3
 pub mod Demand1
 pub mod Wear
+pub mod Spends
 pub mod Leaves
 pub mod Demand2
