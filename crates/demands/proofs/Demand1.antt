@@ -10,7 +10,7 @@ use Rattle.basics.specs.Choice.{pick}
 use Rattle.basics.specs.Lists.{same}
 use Rattle.basics.specs.Answers.{isDone}
 use Rattle.basics.specs.declared.Answer.{Answer}
-use Rattle.basics.specs.declared.Answer.the-variants.{Done, BadImage, BadLog, BadId, WriteError}
+use Rattle.basics.specs.declared.Answer.the-variants.{Done, BadImage, BadLog, BadId, NotFormatted, ReadError, WriteError}
 use Rattle.basics.proofs.Choice.{by-test}
 use Rattle.codec.specs.declared.Raw.{Raw}
 use Rattle.codec.specs.Slots.{slotOf, headerSlot}
@@ -19,18 +19,26 @@ use Rattle.flash.specs.Image.{sectorsIn}
 use Rattle.flash.specs.Run.{Flash, Stepped, program, erase}
 use Rattle.flash.proofs.Steps.{Programmed, program-refused, program-stopped, program-whole, program-outcome, Erased, erase-refused, erase-stopped, erase-whole, erase-outcome}
 use Rattle.records.specs.declared.State.{State}
-use Rattle.records.specs.declared.State.the-variants.{Unformatted, Active}
+use Rattle.records.specs.declared.State.the-variants.{Unformatted, Active, Failed}
 use Rattle.records.specs.declared.Log.{Log}
 use Rattle.fitting.specs.Fitting.{logFits}
 use Rattle.writing.specs.Sectors.{onDone, writeRecords, writeSector}
 use Rattle.writing.specs.Commits.{Wrote, after, commitFrom}
 use Rattle.writing.specs.Appends.{Tried, triesFrom, appendOf}
-use Rattle.reading.specs.Entering.{entryAnswer}
+use Rattle.reading.specs.Entering.{entryAnswer, heldOf, roomFor}
 use Rattle.performing.specs.Outcomes.{Outcome, flashOf, refused, entered}
-use Rattle.log.specs.Calls.{putOf, putValueOf, putAnchorOf, formatOf}
-use Rattle.tries.specs.Tries.{spendOf, setOf, advanceOf}
+use Rattle.ids.specs.declared.Anchor.{Anchor}
+use Rattle.ids.specs.Ids.{counterTag, valueTag, lamport, isCredential, isValue}
+use Rattle.codec.specs.declared.OptRaw.{OptRaw}
+use Rattle.records.specs.Logs.{recordsOf}
+use Rattle.deciding.specs.declared.Decision.{Decision}
+use Rattle.deciding.specs.Decisions.{whenActive, putDecision, valueDecision}
+use Rattle.seeding.specs.Seeds.{seedsKnown, seedTable}
+use Rattle.performing.specs.Performing.{performed, decided, formatted}
+use Rattle.log.specs.Calls.{isFirst, anchoredFirst, anchored, formatOn, putOf, putValueOf, putAnchorOf, formatOf}
+use Rattle.tries.specs.Tries.{spendDecision, spendOf, setDecision, setOf, advanceDecision, advanceOf}
 use Rattle.demands.specs.Calls.{Call, put, put-value, put-anchor, format, spend, set-tries, advance-lamport, outcomeOf}
-use Rattle.demands.specs.Demand1.{leavesAll, knownIn, Refuses}
+use Rattle.demands.specs.Demand1.{leavesAll, knownIn, byState, stateAnswer, Refuses}
 use Rattle.demands.proofs.Courses.{Course, refusal, given, appends, formats, anchors, call-course}
 
 -- ---- a write answers 0, 6 or 7
@@ -134,10 +142,53 @@ module _ (image : List ℕ) (log : Log) (plan : Plan) where
   call-refuses (set-tries credential tries) = entered-refuses (knownIn (set-tries credential tries)) _
   call-refuses (advance-lamport latest) = entered-refuses (knownIn (advance-lamport latest)) _
 
+  -- ---- a call that was let in
+  module _ (some : n ≡ 0 → ⊥) (fits : logFits n log ≡ true) where
+    entered-on : (known : Bool) (call : ℕ → Log → Flash → Outcome) → known ≡ true → entered image log plan known call ≡ call n log f
+    unfolding entered entryAnswer
+    entered-on known call k = rw (ne-eqb n 0 some, fits, k)
+
+    inactive : (d : Decision) (z : State) → isDone (byState NotFormatted ReadError Done z) ≡ false → performed (whenActive z d) n log f ≡ refused (byState NotFormatted ReadError Done z) log f
+    unfolding performed
+    inactive d Unformatted e = refl
+    inactive d Failed e = refl
+    inactive d (Active sector seq head) e = absurd (false≢true (sym e))
+
+    keyed-not-ready : (known : Bool) (tag id : ℕ) (d : OptRaw → Bool → Decision) → known ≡ true → isDone (byState NotFormatted ReadError Done (log .state)) ≡ false
+        → entered image log plan known (decided tag id d) ≡ refused (byState NotFormatted ReadError Done (log .state)) log f
+    keyed-not-ready known tag id d k e = entered-on known (decided tag id d) k ∙ inactive (d (heldOf tag id (recordsOf log)) (roomFor tag id (recordsOf log))) (log .state) e
+
+    format-not-ready : (t : List Raw) (z : State) → isDone (byState Done WriteError WriteError z) ≡ false → formatOn z t n log f ≡ refused (byState Done WriteError WriteError z) log f
+    format-not-ready t Unformatted e = absurd (false≢true (sym e))
+    format-not-ready t Failed e = refl
+    format-not-ready t (Active sector seq head) e = refl
+
+    anchor-not-ready : (new : Anchor) (z : State) → isDone (byState (pick (isFirst new) Done NotFormatted) ReadError Done z) ≡ false
+        → anchored z new n log f ≡ refused (byState (pick (isFirst new) Done NotFormatted) ReadError Done z) log f
+    anchor-not-ready new Unformatted e = go (isFirst new) e
+      where
+        go : (b : Bool) → isDone (pick b Done NotFormatted) ≡ false → pick b (anchoredFirst new n (formatted [] n log f)) (refused NotFormatted log f) ≡ refused (pick b Done NotFormatted) log f
+        go true e = absurd (false≢true (sym e))
+        go false e = refl
+    anchor-not-ready new Failed e = refl
+    anchor-not-ready new (Active sector seq head) e = absurd (false≢true (sym e))
+
+    call-not-ready : (c : Call) → knownIn c ≡ true → isDone (stateAnswer c (log .state)) ≡ false → outcomeOf c image log plan ≡ refused (stateAnswer c (log .state)) log f
+    unfolding putOf putValueOf putAnchorOf formatOf spendOf setOf advanceOf
+    call-not-ready (put credential new) k e = keyed-not-ready (isCredential credential) counterTag credential (λ (held : OptRaw) (room : Bool). putDecision held room credential new) k e
+    call-not-ready (put-value id new) k e = keyed-not-ready (isValue id) valueTag id (λ (held : OptRaw) (room : Bool). valueDecision held room id new) k e
+    call-not-ready (put-anchor new) k e = entered-on true (λ (n : ℕ) (l : Log) (f : Flash). anchored (l .state) new n l f) k ∙ anchor-not-ready new (log .state) e
+    call-not-ready (format seeds count) k e =
+        entered-on (seedsKnown seeds count) (λ (n : ℕ) (l : Log) (f : Flash). formatOn (l .state) (seedTable seeds count) n l f) k ∙ format-not-ready (seedTable seeds count) (log .state) e
+    call-not-ready (spend credential current) k e = keyed-not-ready (isCredential credential) counterTag credential (λ (held : OptRaw) (room : Bool). spendDecision held room credential current) k e
+    call-not-ready (set-tries credential tries) k e = keyed-not-ready (isCredential credential) counterTag credential (λ (held : OptRaw) (room : Bool). setDecision held room credential tries) k e
+    call-not-ready (advance-lamport latest) k e = keyed-not-ready true valueTag lamport (λ (held : OptRaw) (room : Bool). advanceDecision held room latest) k e
+
   pub demand-1 : (c : Call) → Refuses c image log plan
   demand-1 c = record {
     no-image = λ e. call-refuses c BadImage (no-image (knownIn c) e) refl;
     bad-log = λ e k. call-refuses c BadLog (bad-log (knownIn c) e k) refl;
     bad-id = λ e k z. call-refuses c BadId (bad-id (knownIn c) e k z) refl;
+    not-ready = λ e k. call-not-ready e k c;
     unchanged = course-unchanged (outcomeOf c image log plan) (call-course image log plan c);
   }
