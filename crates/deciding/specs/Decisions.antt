@@ -18,12 +18,16 @@ use Rattle.records.specs.declared.State.{State}
 use Rattle.records.specs.declared.State.the-variants.{Unformatted, Failed, Active}
 use Rattle.deciding.specs.declared.Decision.{Decision}
 
+-- an answer, with nothing to write
+abbrev pub unwritten : Answer → ℕ → Decision
+unwritten a value = record { answer = a; write = false; value = value; rec = noRaw }
+
 abbrev pub refuse : Answer → Decision
-refuse a = record { answer = a; write = false; value = 0; rec = noRaw }
+refuse a = unwritten a 0
 
 -- done without a write
 abbrev pub give : ℕ → Decision
-give value = record { answer = Done; write = false; value = value; rec = noRaw }
+give value = unwritten Done value
 
 -- "work out the new table first (8 if a 33rd key is needed)"
 abbrev pub write : Bool → Raw → ℕ → Decision

@@ -5,7 +5,7 @@ use codec::Raw;
 use ids::Anchor;
 use ids::CounterState;
 ghost use mathlib.Core.Path.{_≡_};
-ghost use Rattle.deciding.specs.Decisions.{refuse, give, write, sameCounter, sameAnchor, putDecision, valueDecision, anchorWrite, anchorDecision};
+ghost use Rattle.deciding.specs.Decisions.{unwritten, write, sameCounter, sameAnchor, putDecision, valueDecision, anchorWrite, anchorDecision};
 
 // What a call has decided: an answer and a value, and where `write` is set, the record to append first.
 pub struct Decision {
@@ -15,24 +15,13 @@ pub struct Decision {
     pub rec: Raw,
 }
 
-pub fn refuses(answer: Answer) -> Decision
-    ensures { λ r. ⌜ r ≡ refuse answer ⌝ }
+// An answer and a value, and nothing to write.
+pub fn answers(answer: Answer, value: u64) -> Decision
+    ensures { λ r. ⌜ r ≡ unwritten answer value ⌝ }
 {
     let z = Raw::none();
     Decision {
         answer: answer,
-        write: false,
-        value: 0,
-        rec: z,
-    }
-}
-
-pub fn gives(value: u64) -> Decision
-    ensures { λ r. ⌜ r ≡ give value ⌝ }
-{
-    let z = Raw::none();
-    Decision {
-        answer: Answer::Done,
         write: false,
         value: value,
         rec: z,
@@ -40,16 +29,16 @@ pub fn gives(value: u64) -> Decision
 }
 
 // A record to write, where there is room for its key.
-pub fn writes(room: bool, rec: Raw, value: u64) -> Decision
-    ensures { λ r. ⌜ r ≡ write room rec value ⌝ }
+pub fn writes(room: bool, rec: Raw, reply: u64) -> Decision
+    ensures { λ r. ⌜ r ≡ write room rec reply ⌝ }
 {
     if !room {
-        return refuses(Answer::KeystoreFull);
+        return answers(Answer::KeystoreFull, 0);
     }
     Decision {
         answer: Answer::Done,
         write: true,
-        value: value,
+        value: reply,
         rec: rec,
     }
 }
@@ -76,10 +65,10 @@ pub fn put_decision(held: OptRaw, room: bool, credential: u8, new: CounterState)
     let raw = held.raw;
     let old = bodies::counter_of(raw);
     if new.total < old.total {
-        return refuses(Answer::IntegrityFailure);
+        return answers(Answer::IntegrityFailure, 0);
     }
     if same_counter(new, old) {
-        return gives(0);
+        return answers(Answer::Done, 0);
     }
     written
 }
@@ -94,13 +83,13 @@ pub fn value_decision(held: OptRaw, room: bool, id: u8, new: u64) -> Decision
     let raw = held.raw;
     let old = bodies::value_of(raw);
     if new == old {
-        return gives(0);
+        return answers(Answer::Done, 0);
     }
     if old < new {
         return written;
     }
     if ids::is_monotonic(ids::VALUE_TAG, id) {
-        return refuses(Answer::IntegrityFailure);
+        return answers(Answer::IntegrityFailure, 0);
     }
     written
 }
@@ -123,7 +112,7 @@ fn anchor_write(room: bool, new: Anchor) -> Decision
     let made = bodies::anchor_record(new);
     let answer = made.answer;
     if !basics::is_done(answer) {
-        return refuses(answer);
+        return answers(answer, 0);
     }
     writes(room, made.raw, 0)
 }
@@ -138,13 +127,13 @@ pub fn anchor_decision(held: OptRaw, room: bool, new: Anchor) -> Decision
     let raw = held.raw;
     let old = bodies::anchor_of(raw);
     if same_anchor(new, old) {
-        return gives(0);
+        return answers(Answer::Done, 0);
     }
     if new.format_gen != old.format_gen {
         return written;
     }
     if new.head_seq < old.head_seq {
-        return refuses(Answer::IntegrityFailure);
+        return answers(Answer::IntegrityFailure, 0);
     }
     written
 }

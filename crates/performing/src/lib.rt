@@ -62,7 +62,6 @@ fn finish(w: Wrote, value: u64, log: Log, table: [Raw; LIMIT], count: usize) -> 
     let answer = w.answer;
     let state = w.state;
     let used = w.used;
-    let plan = used.plan;
     if basics::is_done(answer) {
         let new = Log {
             state: state,
@@ -70,14 +69,7 @@ fn finish(w: Wrote, value: u64, log: Log, table: [Raw; LIMIT], count: usize) -> 
             count: count,
             table: table,
         };
-        return Done {
-            answer: answer,
-            value: value,
-            programmed: used.programmed,
-            erased: used.erased,
-            plan: plan,
-            log: new,
-        };
+        return answered(answer, value, new, used);
     }
     let kept = log.table;
     let old = Log {
@@ -86,14 +78,7 @@ fn finish(w: Wrote, value: u64, log: Log, table: [Raw; LIMIT], count: usize) -> 
         count: log.count,
         table: kept,
     };
-    Done {
-        answer: answer,
-        value: 0,
-        programmed: used.programmed,
-        erased: used.erased,
-        plan: plan,
-        log: old,
-    }
+    answered(answer, 0, old, used)
 }
 
 // Append a record whose key has its place at `at`, and answer with this value.

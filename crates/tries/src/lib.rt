@@ -83,10 +83,10 @@ fn spend_from(s: CounterState, room: bool, credential: u8) -> Decision
 {
     let before = s.remaining();
     if before == 0 {
-        return deciding::gives(0);
+        return deciding::answers(Answer::Done, 0);
     }
     match s.after_failure() {
-        Next::Refused(answer) => deciding::refuses(answer),
+        Next::Refused(answer) => deciding::answers(answer, 0),
         Next::State(new) => deciding::writes(
             room,
             bodies::counter_record(credential, new),
@@ -122,7 +122,7 @@ fn set_decision(held: OptRaw, room: bool, credential: u8, tries: u8) -> Decision
         return written;
     }
     if s.remaining() == tries {
-        return deciding::gives(0);
+        return deciding::answers(Answer::Done, 0);
     }
     written
 }
@@ -168,7 +168,7 @@ fn advance_from(most: u64, room: bool) -> Decision
     ensures { λ r. ⌜ r ≡ advanceFrom most room ⌝ }
 {
     if most == LAMPORT_MAX {
-        return deciding::refuses(Answer::WriteError);
+        return deciding::answers(Answer::WriteError, 0);
     }
     let next = most + 1;
     deciding::writes(room, bodies::value_record(ids::LAMPORT, next), next)

@@ -5,13 +5,25 @@ use mathlib.Core.List.{List, [], _∷_}
 use Prim.Native.Nat.{ℕ, zero, suc, _<_}
 use native.Mathlib.Omega.{arith}
 use lib.ListN.{length, getD}
-use Rattle.basics.specs.Lists.{same}
-use Rattle.basics.specs.Little.{leBytes}
+use Rattle.basics.specs.Lists.{same, allAre}
+use Rattle.basics.specs.Little.{leBytes, leNumber}
 use Rattle.basics.proofs.Choice.{first, second}
 use Rattle.basics.proofs.Lists.{same-eq}
 use Rattle.crc.specs.Register.{turn, turns, eat, feed, finished, crc32Of}
+use Rattle.ids.specs.Ids.{isMonotonic}
 use Rattle.ids.specs.Counters.{remainingOf}
+use Rattle.codec.specs.Slots.{slotOf, crcUnder}
 use Rattle.bodies.specs.Bodies.{anchorRecord}
+use Rattle.flash.specs.Image.{sectorsIn, slotAt, withSlot}
+use Rattle.flash.specs.Run.{program, landed}
+use Rattle.records.specs.Table.{holds, placeOf, joined}
+use Rattle.fitting.specs.Fitting.{logFits, allZeros, keysFit}
+use Rattle.writing.specs.Appends.{triesFrom, appendOf}
+use Rattle.deciding.specs.Decisions.{valueDecision}
+use Rattle.reading.specs.Entering.{entryAnswer, heldOf, roomFor}
+use Rattle.performing.specs.Outcomes.{entered}
+use Rattle.performing.specs.Performing.{performed}
+use Rattle.log.specs.Calls.{putValueOf}
 use Rattle.worked.specs.Table.{Row, table}
 
 unfoldable pub allRight : List Row → Bool
@@ -19,7 +31,7 @@ allRight [] = true
 allRight (r ∷ rs) = same (r .given) (r .said) && allRight rs
 
 pub table-right : allRight table ≡ true
-unfolding allRight table same leBytes turn turns eat feed finished crc32Of remainingOf anchorRecord
+unfolding allRight table same leBytes leNumber turn turns eat feed finished crc32Of remainingOf anchorRecord putValueOf entered entryAnswer sectorsIn logFits allZeros keysFit allAre holds placeOf heldOf roomFor valueDecision isMonotonic performed joined appendOf triesFrom program landed slotAt withSlot slotOf crcUnder
 table-right = refl
 
 -- what stands at a place past the end

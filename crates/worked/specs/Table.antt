@@ -1,15 +1,24 @@
 -- "Worked by hand (★ is proved, all ★ in a single table)": the starred cases in the paper's order,
 -- each with what the definitions give and what the paper says. A single number is a list of one.
-use mathlib.Core.List.{List, [], _∷_}
+use mathlib.Core.Bool.{false}
+use mathlib.Core.List.{List, [], _∷_, map}
 use Prim.Native.Nat.{ℕ, _-_, _^_}
+use lib.ListN.{replicate}
 use Rattle.basics.specs.Answers.{numberOf}
 use Rattle.crc.specs.Register.{crc32Of}
 use Rattle.ids.specs.declared.CounterState.{CounterState}
 use Rattle.ids.specs.declared.Anchor.{Anchor}
-use Rattle.ids.specs.Ids.{lamport}
+use Rattle.ids.specs.Ids.{lamport, signatureCounter}
 use Rattle.ids.specs.Counters.{remainingOf}
 use Rattle.codec.specs.Slots.{headerBytes, bytesOf}
-use Rattle.bodies.specs.Bodies.{counterRecord, valueRecord, anchorRecord}
+use Rattle.codec.specs.declared.Raw.{Raw}
+use Rattle.bodies.specs.Bodies.{counterRecord, valueRecord, valueIn, anchorRecord}
+use Rattle.flash.specs.declared.Plan.{Plan}
+use Rattle.records.specs.declared.State.the-variants.{Active}
+use Rattle.records.specs.declared.Log.{Log}
+use Rattle.records.specs.Logs.{logOf, recordsOf}
+use Rattle.performing.specs.Outcomes.{Outcome}
+use Rattle.log.specs.Calls.{putValueOf}
 
 pub record Row : Type 0 where
   pub given : List ℕ
@@ -23,6 +32,19 @@ anchor gen seq slot = record { «format_gen» = gen; «head_seq» = seq; «head_
 
 abbrev row : List ℕ → List ℕ → Row
 row given said = record { given = given; said = said }
+
+-- a put of 4 where 5 is held: a blank sector, and a log with that one record
+abbrev holding : ℕ → Log
+holding id = logOf (Active 0 1 1) 2 (valueRecord id 5 ∷ [])
+
+abbrev calm : Plan
+calm = record { limited = false; units = 0; «refuse_erase» = false; «refuse_programs» = 0 }
+
+abbrev fourOver : ℕ → Outcome
+fourOver id = putValueOf (replicate 4096 0xFF) (holding id) calm id 4
+
+abbrev valueHeld : Raw → ℕ
+valueHeld r = valueIn (r .body)
 
 unfoldable pub table : List Row
 table =
@@ -44,4 +66,8 @@ table =
     ∷ row (remainingOf (counter 3 1 2) ∷ []) (0 ∷ [])
     -- "Allowance 3, total 4, at-reset 0: 0."
     ∷ row (remainingOf (counter 3 4 0) ∷ []) (0 ∷ [])
+    -- 6. "Lamport put of 4 over 5: 9."
+    ∷ row (numberOf (fourOver lamport .answer) ∷ []) (9 ∷ [])
+    -- "SignatureCounter 4 over 5: accepted": the answer, and what is held then
+    ∷ row (numberOf (fourOver signatureCounter .answer) ∷ map valueHeld (recordsOf (fourOver signatureCounter .log))) (0 ∷ 4 ∷ [])
     ∷ []

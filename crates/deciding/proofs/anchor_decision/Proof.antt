@@ -21,15 +21,15 @@ anchor-of-requires c κs = search needs
 same-anchor-requires : tie.Need-same-anchor-requires
 same-anchor-requires c κs = search needs
 
-gives-requires : tie.Need-gives-requires
-gives-requires c κs = search needs
+answers-requires : tie.Need-answers-requires
+answers-requires c κs = search needs
 
 returns-2 : tie.Need-returns-2
 returns-2 c =
     let a = c .before .before .before .before .before .before .before .before .args in
     let o = c .before .before .before .anchor-of in
     let over = anchor-over (a .held) (a .room) (a .new) (not-false (a .held .some) (c .before .before .before .before .before .if1 .left)) (o .result) (o .ensures) in
-    c .gives .ensures ∙ sym (over ∙ anchor-same (a .new) (o .result) (anchorWrite (a .room) (a .new)) (sym (c .before .before .same-anchor .ensures) ∙ c .before .if2 .taken))
+    c .answers .ensures ∙ sym (over ∙ anchor-same (a .new) (o .result) (anchorWrite (a .room) (a .new)) (sym (c .before .before .same-anchor .ensures) ∙ c .before .if2 .taken))
 
 returns-3 : tie.Need-returns-3
 returns-3 c =
@@ -38,15 +38,15 @@ returns-3 c =
     let over = anchor-over (a .held) (a .room) (a .new) (not-false (a .held .some) (c .before .before .before .before .before .before .before .if1 .left)) (o .result) (o .ensures) in
     c .before .before .before .before .before .before .before .before .before .anchor-write .ensures ∙ sym (over ∙ anchor-new-gen (a .new) (o .result) (anchorWrite (a .room) (a .new)) (sym (c .before .before .before .before .same-anchor .ensures) ∙ c .before .before .before .if2 .left) (c .if3 .taken))
 
-refuses-requires : tie.Need-refuses-requires
-refuses-requires c κs = search needs
+answers-requires-2 : tie.Need-answers-requires-2
+answers-requires-2 c κs = search needs
 
 returns-4 : tie.Need-returns-4
 returns-4 c =
     let a = c .before .before .before .before .before .before .before .before .before .before .before .before .before .before .args in
     let o = c .before .before .before .before .before .before .before .before .before .anchor-of in
     let over = anchor-over (a .held) (a .room) (a .new) (not-false (a .held .some) (c .before .before .before .before .before .before .before .before .before .before .before .if1 .left)) (o .result) (o .ensures) in
-    c .refuses .ensures ∙ sym (over ∙ anchor-below (a .new) (o .result) (anchorWrite (a .room) (a .new)) (sym (c .before .before .before .before .before .before .before .before .same-anchor .ensures) ∙ c .before .before .before .before .before .before .before .if2 .left) (c .before .before .before .before .if3 .left) (c .before .if4 .taken))
+    c .answers2 .ensures ∙ sym (over ∙ anchor-below (a .new) (o .result) (anchorWrite (a .room) (a .new)) (sym (c .before .before .before .before .before .before .before .before .same-anchor .ensures) ∙ c .before .before .before .before .before .before .before .if2 .left) (c .before .before .before .before .if3 .left) (c .before .if4 .taken))
 
 returns-5 : tie.Need-returns-5
 returns-5 c =
@@ -63,9 +63,9 @@ anchor-decision-spec =
     returns
     anchor-of-requires
     same-anchor-requires
-    gives-requires
+    answers-requires
     returns-2
     returns-3
-    refuses-requires
+    answers-requires-2
     returns-4
     returns-5)

@@ -12,14 +12,14 @@ anchor-record-requires c κs = search needs
 is-done-requires : tie.Need-is-done-requires
 is-done-requires c κs = search needs
 
-refuses-requires : tie.Need-refuses-requires
-refuses-requires c κs = search needs
+answers-requires : tie.Need-answers-requires
+answers-requires c κs = search needs
 
 returns : tie.Need-returns
 returns c =
     let a = c .before .before .before .before .args in
     let m = c .before .before .before .anchor-record in
-    c .refuses .ensures ∙ sym (made-not (a .room) (a .new) (m .result) (m .ensures) (sym (c .before .before .is-done .ensures) ∙ not-true (c .before .before .is-done .result) (c .before .if1 .taken)))
+    c .answers .ensures ∙ sym (made-not (a .room) (a .new) (m .result) (m .ensures) (sym (c .before .before .is-done .ensures) ∙ not-true (c .before .before .is-done .result) (c .before .if1 .taken)))
 
 writes-requires : tie.Need-writes-requires
 writes-requires c κs = search needs
@@ -36,7 +36,7 @@ anchor-write-spec =
     (tie.spec
     anchor-record-requires
     is-done-requires
-    refuses-requires
+    answers-requires
     returns
     writes-requires
     returns-2)

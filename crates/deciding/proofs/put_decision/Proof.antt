@@ -28,27 +28,27 @@ returns c =
 counter-of-requires : tie.Need-counter-of-requires
 counter-of-requires c κs = search needs
 
-refuses-requires : tie.Need-refuses-requires
-refuses-requires c κs = search needs
+answers-requires : tie.Need-answers-requires
+answers-requires c κs = search needs
 
 returns-2 : tie.Need-returns-2
 returns-2 c =
     let a = c .before .before .before .before .before .before .before .before .before .before .args in
     let o = c .before .before .before .before .counter-of in
-    c .refuses .ensures ∙ sym (put-below (a .held) (a .room) (a .credential) (a .new) (not-false (a .held .some) (c .before .before .before .before .before .before .if1 .left)) (o .result) (o .ensures) (c .before .if2 .taken))
+    c .answers .ensures ∙ sym (put-below (a .held) (a .room) (a .credential) (a .new) (not-false (a .held .some) (c .before .before .before .before .before .before .if1 .left)) (o .result) (o .ensures) (c .before .if2 .taken))
 
 same-counter-requires : tie.Need-same-counter-requires
 same-counter-requires c κs = search needs
 
-gives-requires : tie.Need-gives-requires
-gives-requires c κs = search needs
+answers-requires-2 : tie.Need-answers-requires-2
+answers-requires-2 c κs = search needs
 
 returns-3 : tie.Need-returns-3
 returns-3 c =
     let a = c .before .before .before .before .before .before .before .before .before .before .before .before .args in
     let o = c .before .before .before .before .before .before .counter-of in
     let same = sym (c .before .before .same-counter .ensures) ∙ c .before .if3 .taken in
-    c .gives .ensures
+    c .answers2 .ensures
     ∙ sym (put-over (a .held) (a .room) (a .credential) (a .new) (not-false (a .held .some) (c .before .before .before .before .before .before .before .before .if1 .left)) (o .result) (o .ensures) (c .before .before .before .if2 .left) ∙ ap (λ (b : Bool). pick b (give 0) (putWritten (a .held) (a .room) (a .credential) (a .new))) same)
 
 returns-4 : tie.Need-returns-4
@@ -67,9 +67,9 @@ put-decision-spec =
     writes-requires
     returns
     counter-of-requires
-    refuses-requires
+    answers-requires
     returns-2
     same-counter-requires
-    gives-requires
+    answers-requires-2
     returns-3
     returns-4)

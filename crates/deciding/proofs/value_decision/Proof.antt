@@ -30,15 +30,15 @@ returns c =
 value-of-requires : tie.Need-value-of-requires
 value-of-requires c κs = search needs
 
-gives-requires : tie.Need-gives-requires
-gives-requires c κs = search needs
+answers-requires : tie.Need-answers-requires
+answers-requires c κs = search needs
 
 returns-2 : tie.Need-returns-2
 returns-2 c =
     let a = c .before .before .before .before .before .before .before .before .args in
     let o = c .before .before .value-of in
     let over = value-over (a .held) (a .room) (a .id) (a .new) (not-false (a .held .some) (c .before .before .before .before .if1 .left)) (o .result) (o .ensures) in
-    c .gives .ensures ∙ sym (over ∙ over-same (a .id) (a .new) (o .result) (valueWritten (a .held) (a .room) (a .id) (a .new)) (c .before .if2 .taken))
+    c .answers .ensures ∙ sym (over ∙ over-same (a .id) (a .new) (o .result) (valueWritten (a .held) (a .room) (a .id) (a .new)) (c .before .if2 .taken))
 
 returns-3 : tie.Need-returns-3
 returns-3 c =
@@ -50,8 +50,8 @@ returns-3 c =
 is-monotonic-requires : tie.Need-is-monotonic-requires
 is-monotonic-requires c κs = search needs
 
-refuses-requires : tie.Need-refuses-requires
-refuses-requires c κs = search needs
+answers-requires-2 : tie.Need-answers-requires-2
+answers-requires-2 c κs = search needs
 
 returns-4 : tie.Need-returns-4
 returns-4 c =
@@ -60,7 +60,7 @@ returns-4 c =
     let over = value-over (a .held) (a .room) (a .id) (a .new) (not-false (a .held .some) (c .before .before .before .before .before .before .before .if1 .left)) (o .result) (o .ensures) in
     let below = over-below (a .id) (a .new) (o .result) (valueWritten (a .held) (a .room) (a .id) (a .new)) (omega (arith, c .before .before .before .if3 .left, c .before .before .before .before .if2 .left)) in
     let fell = sym (c .before .before .is-monotonic .ensures) ∙ c .before .if4 .taken in
-    c .refuses .ensures ∙ sym (over ∙ below ∙ ap (λ (b : Bool). pick b (refuse IntegrityFailure) (valueWritten (a .held) (a .room) (a .id) (a .new))) fell)
+    c .answers2 .ensures ∙ sym (over ∙ below ∙ ap (λ (b : Bool). pick b (refuse IntegrityFailure) (valueWritten (a .held) (a .room) (a .id) (a .new))) fell)
 
 returns-5 : tie.Need-returns-5
 returns-5 c =
@@ -79,10 +79,10 @@ value-decision-spec =
     writes-requires
     returns
     value-of-requires
-    gives-requires
+    answers-requires
     returns-2
     returns-3
     is-monotonic-requires
-    refuses-requires
+    answers-requires-2
     returns-4
     returns-5)

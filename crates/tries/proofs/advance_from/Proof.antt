@@ -18,12 +18,12 @@ use Rattle.tries.proofs.advance_from.Tie as tie
 abbrev by : tie.Start → Bool → Decision
 by s b = let a = s .args in pick b (refuse WriteError) (write (a .room) (valueRecord lamport (a .most + 1)) (a .most + 1))
 
-refuses-requires : tie.Need-refuses-requires
-refuses-requires c κs = search needs
+answers-requires : tie.Need-answers-requires
+answers-requires c κs = search needs
 
 returns : tie.Need-returns
 unfolding advanceFrom
-returns c = let s = c .before .before in c .refuses .ensures ∙ sym (ap (by s) (eq-eqb (s .args .most) lamportMax (c .before .if1 .taken)))
+returns c = let s = c .before .before in c .answers .ensures ∙ sym (ap (by s) (eq-eqb (s .args .most) lamportMax (c .before .if1 .taken)))
 
 add-next : tie.Need-add-next
 add-next c = search needs
@@ -46,4 +46,4 @@ returns-2 c =
 pub advance-from-spec : {M : Type 1} → statement M
 advance-from-spec =
     tie.close
-    (tie.spec refuses-requires returns add-next value-record-requires writes-requires returns-2)
+    (tie.spec answers-requires returns add-next value-record-requires writes-requires returns-2)

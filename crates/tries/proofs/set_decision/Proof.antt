@@ -61,8 +61,8 @@ returns c =
 remaining-requires : tie.Need-remaining-requires
 remaining-requires c κs = search needs
 
-gives-requires : tie.Need-gives-requires
-gives-requires c κs = search needs
+answers-requires : tie.Need-answers-requires
+answers-requires c κs = search needs
 
 -- where a record is held
 left : (r : tie.After-remaining) (b : Bool) → let w = r .before .before .before in let a = start-of w .args in eqb (r .remaining .result) (a .tries) ≡ b → (a .held .some && eqb (remainingOf (counter w)) (a .tries)) ≡ b
@@ -78,7 +78,7 @@ returns-2 : tie.Need-returns-2
 returns-2 c =
     let r = c .before .before in
     let w = r .before .before .before in
-    c .gives .ensures ∙ sym (by w _ (left r _ (eq-eqb (r .remaining .result) (start-of w .args .tries) (c .before .if2 .taken))))
+    c .answers .ensures ∙ sym (by w _ (left r _ (eq-eqb (r .remaining .result) (start-of w .args .tries) (c .before .if2 .taken))))
 
 returns-3 : tie.Need-returns-3
 returns-3 c =
@@ -96,6 +96,6 @@ set-decision-spec =
     writes-requires
     returns
     remaining-requires
-    gives-requires
+    answers-requires
     returns-2
     returns-3)

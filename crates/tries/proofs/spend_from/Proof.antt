@@ -27,15 +27,15 @@ spent f x e =
 remaining-requires : tie.Need-remaining-requires
 remaining-requires c κs = search needs
 
-gives-requires : tie.Need-gives-requires
-gives-requires c κs = search needs
+answers-requires : tie.Need-answers-requires
+answers-requires c κs = search needs
 
 returns : tie.Need-returns
 unfolding spendFrom
 returns c =
     let r = c .before .before in
     let a = r .before .args in
-    c .gives .ensures
+    c .answers .ensures
     ∙ sym (ap (λ (b : Bool). pick b (give 0) (spentBy (a .room) (a .credential) (remainingOf (a .s)) (failedOf (a .s)))) (ap (λ (n : ℕ). eqb n 0) (sym (r .remaining .ensures)) ∙ eq-eqb (r .remaining .result) 0 (c .before .if1 .taken)))
 
 after-failure-requires : tie.Need-after-failure-requires
@@ -44,8 +44,8 @@ after-failure-requires c κs = search needs
 enum-known-answer : tie.Need-enum-known-answer
 enum-known-answer c = search needs
 
-refuses-requires : tie.Need-refuses-requires
-refuses-requires c κs = search needs
+answers-requires-2 : tie.Need-answers-requires-2
+answers-requires-2 c κs = search needs
 
 enum-known-new : tie.Need-enum-known-new
 enum-known-new c = search needs
@@ -60,7 +60,7 @@ writes-requires : tie.Need-writes-requires
 writes-requires c κs = search needs
 
 returns-2 : tie.Need-returns-2
-returns-2 c = let w = c .before .before in c .refuses .ensures ∙ spent (w .before .before) _ (w .answer .given .1)
+returns-2 c = let w = c .before .before in c .answers2 .ensures ∙ spent (w .before .before) _ (w .answer .given .1)
 
 returns-3 : tie.Need-returns-3
 returns-3 c =
@@ -76,11 +76,11 @@ spend-from-spec =
     tie.close
     (tie.spec
     remaining-requires
-    gives-requires
+    answers-requires
     returns
     after-failure-requires
     enum-known-answer
-    refuses-requires
+    answers-requires-2
     enum-known-new
     counter-record-requires
     cast-writes

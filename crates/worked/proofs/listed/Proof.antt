@@ -1,0 +1,44 @@
+-- `worked::listed` is safe: what `list` put into the buffer lies within it.
+use mathlib.Core.Path.{sym}
+use Prim.Native.Nat.{_≤_}
+use native.Mathlib.Omega.{arith}
+use lib.ListN.{length}
+use lib.Seq.{length-take-le}
+use borrow.Author.Needs.{needs}
+use Rattle.text.proofs.Putting.{put-within}
+use Rattle.worked.proofs.listed.Statement.{statement}
+use Rattle.worked.proofs.listed.Tie as tie
+
+within : (c : tie.After-list) → c .list .result ≤ length (c .list .last .1 .0)
+within c = let same = c .list .kept .1 .0 in omega (arith, put-within (c .list .ensures) (omega arith) same)
+
+slice-aggregate-list : tie.Need-slice-aggregate-list
+slice-aggregate-list c = search needs
+
+list-requires : tie.Need-list-requires
+list-requires c κs = search needs
+
+array-share-prefix-out : tie.Need-array-share-prefix-out
+array-share-prefix-out c = within (c .before)
+
+slice-aggregate-write-all : tie.Need-slice-aggregate-write-all
+slice-aggregate-write-all c =
+    let l = c .before .before in
+    sym (length-take-le (l .list .result) (l .list .last .1 .0) (within l))
+
+write-all-requires : tie.Need-write-all-requires
+write-all-requires c κs = search needs
+
+returns : tie.Need-returns
+returns c = search needs
+
+pub listed-spec : {M : Type 1} → statement M
+listed-spec =
+    tie.close
+    (tie.spec
+    slice-aggregate-list
+    list-requires
+    array-share-prefix-out
+    slice-aggregate-write-all
+    write-all-requires
+    returns)
