@@ -112,9 +112,8 @@ module _ (image : List ℕ) (log : Log) (i : Inv image log) where
   typed-take (suc k) [] typed = tt
   typed-take (suc k) (s ∷ seeds) typed = (typed .0, typed .1, typed-take k seeds (typed .2))
 
-  seeds-proper : (seeds : List Seed) (count : ℕ) → TypedSeeds seeds → isDone (entryAnswer (sectorsIn (length image)) log (seedsKnown seeds count)) ≡ true → Proper (seedTable seeds count)
-  seeds-proper seeds count typed e =
-      let known = let-in-by (sectorsIn (length image)) log (seedsKnown seeds count) e .2 in
+  pub seeds-proper : (seeds : List Seed) (count : ℕ) → TypedSeeds seeds → seedsKnown seeds count ≡ true → Proper (seedTable seeds count)
+  seeds-proper seeds count typed known =
       let few = leb-true count 8 (first (leb count 8) (allKnown (take count seeds)) known) in
       let most : length (take count seeds) ≤ 8 = simp length-take (omega arith) in
       seeded-proper (take count seeds) [] (typed-take count seeds typed) (omega arith) proper-none
@@ -124,10 +123,13 @@ module _ (image : List ℕ) (log : Log) (i : Inv image log) where
   unfolding formatOf
   format-safe seeds count typed plan =
       entered-safe image log i (seedsKnown seeds count) (λ (n : ℕ) (l : Log) (f : Flash). formatOn (l .state) t n l f) (Unit {0}) (λ z. z ≡ seen log) refl plan (holding t)
-      (λ e. safe (seeds-proper seeds count typed e) (log .state) refl) (λ e. attains (seeds-proper seeds count typed e) (log .state) refl)
+      (λ e. safe (seeds-proper seeds count typed (known e)) (log .state) refl) (λ e. attains (seeds-proper seeds count typed (known e)) (log .state) refl)
     where
       t : List Raw
       t = seedTable seeds count
+
+      known : isDone (entryAnswer (sectorsIn (length image)) log (seedsKnown seeds count)) ≡ true → seedsKnown seeds count ≡ true
+      known e = let-in-by (sectorsIn (length image)) log (seedsKnown seeds count) e .2
 
       safe : Proper t → (z : State) → log .state ≡ z → SafeCall (sectorsIn (length image)) (Unit {0}) (λ x. x ≡ seen log) (holding t) (formatOn z t (sectorsIn (length image)) log (flashOf image plan))
       safe proper Unformatted e = formatted-safe (flashOf image plan) log refl i e t proper

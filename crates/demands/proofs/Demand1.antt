@@ -144,7 +144,7 @@ module _ (image : List ℕ) (log : Log) (plan : Plan) where
 
   -- ---- a call that was let in
   module _ (some : n ≡ 0 → ⊥) (fits : logFits n log ≡ true) where
-    entered-on : (known : Bool) (call : ℕ → Log → Flash → Outcome) → known ≡ true → entered image log plan known call ≡ call n log f
+    pub entered-on : (known : Bool) (call : ℕ → Log → Flash → Outcome) → known ≡ true → entered image log plan known call ≡ call n log f
     unfolding entered entryAnswer
     entered-on known call k = rw (ne-eqb n 0 some, fits, k)
 

@@ -21,6 +21,7 @@ pub mod Demand3
 pub mod Courses
 pub mod Demand1
 pub mod Wearing
+pub mod Figures
 pub mod Leaving
 pub mod Demand2
 pub mod Spends

@@ -9,5 +9,6 @@ pub mod Demand3
 pub mod Demand1
 pub mod Wear
 pub mod Spends
+pub mod Figures
 pub mod Leaves
 pub mod Demand2
