@@ -25,3 +25,4 @@ pub mod Figures
 pub mod Leaving
 pub mod Demand2
 pub mod Spends
+pub mod Witness
