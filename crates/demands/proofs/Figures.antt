@@ -1,31 +1,26 @@
 -- The figures of calls on a healthy flash, in any session.
 use mathlib.Core.Path.{_≡_, refl, sym, ap, subst, _∙_}
-use mathlib.Core.Bool.{Bool, true, false, false≢true}
+use mathlib.Core.Bool.{Bool, true, false≢true}
 use mathlib.Core.List.{List}
-use Prim.Native.Nat.{ℕ, _+_, _*_, _<_}
+use Prim.Native.Nat.{ℕ}
 use native.Mathlib.Omega.{arith}
 use lib.ListN.{length}
-use Rattle.basics.specs.Answers.{isDone}
 use Rattle.ids.specs.Ids.{counterTag, valueTag, anchorTag, lamport, isCredential, isValue}
-use Rattle.codec.specs.declared.Raw.{Raw}
 use Rattle.codec.specs.declared.OptRaw.{OptRaw}
 use Rattle.flash.specs.Image.{sectorsIn}
 use Rattle.flash.specs.Run.{Flash}
 use Rattle.records.specs.declared.State.{State}
-use Rattle.records.specs.declared.State.the-variants.{Unformatted, Failed, Active}
+use Rattle.records.specs.declared.State.the-variants.{Active}
 use Rattle.records.specs.declared.Log.{Log}
-use Rattle.records.specs.Table.{joined}
-use Rattle.records.specs.Logs.{logOf, recordsOf}
-use Rattle.fitting.specs.Fitting.{seqMax}
-use Rattle.writing.specs.Commits.{after}
+use Rattle.records.specs.Logs.{recordsOf}
 use Rattle.deciding.specs.declared.Decision.{Decision}
 use Rattle.deciding.specs.Decisions.{whenActive, putDecision, valueDecision, anchorDecision}
 use Rattle.reading.specs.Entering.{heldOf, roomFor}
 use Rattle.seeding.specs.declared.Seed.{Seed}
 use Rattle.seeding.specs.Seeds.{seedsKnown, seedTable}
 use Rattle.performing.specs.Outcomes.{Outcome, flashOf, entered}
-use Rattle.performing.specs.Performing.{performed, decided, formatted}
-use Rattle.log.specs.Calls.{putOf, putValueOf, anchorCall, anchored, putAnchorOf, formatOn, formatOf}
+use Rattle.performing.specs.Performing.{performed, decided}
+use Rattle.log.specs.Calls.{putOf, putValueOf, anchored, putAnchorOf, formatOn, formatOf}
 use Rattle.tries.specs.Tries.{spendDecision, spendOf, setDecision, setOf, advanceDecision, advanceOf}
 use Rattle.demands.specs.Healthy.{Healthy, healthy}
 use Rattle.demands.specs.Typed.{TypedSeeds}

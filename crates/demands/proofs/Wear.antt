@@ -16,7 +16,7 @@ use Rattle.basics.proofs.Choice.{by-test}
 use Rattle.codec.specs.declared.Raw.{Raw}
 use Rattle.codec.specs.Slots.{slotOf}
 use Rattle.flash.specs.Run.{Flash, program}
-use Rattle.flash.proofs.Steps.{Paid, program-paid, erase-paid}
+use Rattle.flash.proofs.Steps.{Paid, program-paid, erase-paid, CutIsDead, program-cut, erase-cut}
 use Rattle.records.specs.declared.State.{State}
 use Rattle.records.specs.declared.State.the-variants.{Active}
 use Rattle.writing.specs.Sectors.{writeSector}
@@ -46,6 +46,23 @@ commit-paid n a t = commit-trace Paid paid-none paid-on (λ s. Any) Any (λ s k 
 pub append-paid : (n s seq head next : ℕ) (r : Raw) (t : List Raw) (f : Flash) → s < n → head ≤ 256 → Paid f (appendOf n s seq head next r t f .flash)
 append-paid n s seq head next r t f within high =
     append-trace Paid paid-none paid-on (λ s. Any) Any (λ s k new f _. program-paid s k new f) (λ s f _. erase-paid s f) n s seq head next r t f within high (λ i l u z. tt) (λ x u z. tt) (λ x i u z l. tt)
+
+-- a flash that was cut is without power
+abbrev Spent : Flash → Flash → Type 0
+Spent f g = CutIsDead f → CutIsDead g
+
+spent-none : (f : Flash) → Spent f f
+spent-none f d = d
+
+spent-on : (f g h : Flash) → Spent f g → Spent g h → Spent f h
+spent-on f g h a b d = b (a d)
+
+pub commit-spent : (n a : ℕ) (t : List Raw) (m s : ℕ) (last : Answer) (state : State) (next : ℕ) (f : Flash) → s < n → Spent f (commitFrom m n a s t last state next f .flash)
+commit-spent n a t = commit-trace Spent spent-none spent-on (λ s. Any) Any (λ s k new f _. program-cut s k new f) (λ s f _. erase-cut s f) n a t (λ s u z. tt) (λ s i u z l. tt)
+
+pub append-spent : (n s seq head next : ℕ) (r : Raw) (t : List Raw) (f : Flash) → s < n → head ≤ 256 → Spent f (appendOf n s seq head next r t f .flash)
+append-spent n s seq head next r t f within high =
+    append-trace Spent spent-none spent-on (λ s. Any) Any (λ s k new f _. program-cut s k new f) (λ s f _. erase-cut s f) n s seq head next r t f within high (λ i l u z. tt) (λ x u z. tt) (λ x i u z l. tt)
 
 -- ---- sectors
 -- of m sectors from s on, those that are not the one to avoid
