@@ -35,7 +35,7 @@ use Rattle.scan.proofs.Viewing.{read-same}
 use Rattle.writing.specs.Commits.{after, commitAfter}
 use Rattle.writing.specs.Appends.{Tried, triesFrom, appendOf}
 use Rattle.writing.proofs.Stepping.{after-within}
-use Rattle.demands.specs.Chance.{cutAt, ChanceMatch}
+use Rattle.demands.specs.Chance.{cutAt, ChanceMatch, Unmatched}
 use Rattle.demands.specs.Shown.{Seen, active, holding}
 use Rattle.demands.proofs.Torn.{slot-sixteen, slot-bytes, cut-length, cut-bytes, cut-record}
 use Rattle.demands.proofs.Tables.{Proper, join-proper, Writable, slot-none, slot-written, read-last}
@@ -92,9 +92,6 @@ module _ (n s seq : ℕ) (r : Raw) (old : List Raw) (w : Writable r old) (next :
   abbrev slot : List ℕ
   slot = slotOf seq r
 
-  abbrev Lucky : Type 0
-  Lucky = ChanceMatch seq slot → ⊥
-
   abbrev pub Here : List ℕ → ℕ → List Raw → Type 0
   Here image head t = Agrees n image (Active s seq head) next t
 
@@ -140,9 +137,14 @@ module _ (n s seq : ℕ) (r : Raw) (old : List Raw) (w : Writable r old) (next :
     here-whole left is = here-put slot (slot-sixteen seq fits r (w .whole)) (slot-bytes seq fits r (w .whole)) left is new proper-new (slot-written seq r old w)
 
     -- a record that was cut is none or whole, but for the chance match
-    here-cut : Lucky → (k : ℕ) → k < 16 → (left : List ℕ) → left ≡ withSlot s head (cutAt k slot) image → (Here left (head + 1) old) ⊎ (Here left (head + 1) new)
-    here-cut lucky k h left is = go (cut-record seq fits r (w .whole) lucky k (omega arith))
+    here-cut : (low : ℕ) → low ≤ head → (k : ℕ) → k < 16 → (left : List ℕ) → left ≡ withSlot s head (cutAt k slot) image → Unmatched (Active s seq low) r left → (Here left (head + 1) old) ⊎ (Here left (head + 1) new)
+    here-cut low under k h left is lucky = go (cut-record seq fits r (w .whole) k (omega arith) unlucky)
       where
+        unlucky : (m : ChanceMatch seq slot) → m .k ≡ k → ⊥
+        unlucky m e =
+            let sixteen = cut-length slot (slot-sixteen seq fits r (w .whole)) k (omega arith) in
+            lucky head under room m (ap (λ (l : List ℕ). slotAt l s head) is ∙ with-slot-here n image size s (g .found .placed .within) head room (cutAt k slot) sixteen ∙ ap (λ (j : ℕ). cutAt j slot) (sym e))
+
         go : (decoded seq (cutAt k slot) ≡ none) ⊎ (cutAt k slot ≡ slot) → (Here left (head + 1) old) ⊎ (Here left (head + 1) new)
         go (inl e) =
             let sixteen = slot-sixteen seq fits r (w .whole) in
@@ -151,7 +153,11 @@ module _ (n s seq : ℕ) (r : Raw) (old : List Raw) (w : Writable r old) (next :
         go (inr e) = inr (here-whole left (is ∙ ap (λ (l : List ℕ). withSlot s head l image) e))
 
   -- ---- the tries
-  module _ (P : Seen → Type 0) (p : P (active s seq old)) where
+  module _ (low : ℕ) (P : Seen → Type 0) (p : P (active s seq old)) where
+    -- what must be known of the image of an append that was cut
+    abbrev Lucky : List ℕ → Type 0
+    Lucky left = Unmatched (Active s seq low) r left
+
     abbrev Woken : List ℕ → Type 0
     Woken image = Wakes n P (holding new) image
 
@@ -159,7 +165,7 @@ module _ (n s seq : ℕ) (r : Raw) (old : List Raw) (w : Writable r old) (next :
       filled : o .full ≡ true → o .head ≤ 256 → o .flash .cut ≡ false → Here (o .flash .image) (o .head) old → Attempted o
       written : o .full ≡ false → isDone (o .answer) ≡ true → o .flash .cut ≡ false → Here (o .flash .image) (o .head) new → Attempted o
       refused : o .full ≡ false → Fails (o .answer) → o .flash .cut ≡ false → Here (o .flash .image) (o .head) old → Attempted o
-      cut : Fails (o .answer) → Cut (o .flash) → (Lucky → Woken (o .flash .image)) → Attempted o
+      cut : Fails (o .answer) → Cut (o .flash) → (Lucky (o .flash .image) → Woken (o .flash .image)) → Attempted o
 
     abbrev StillTried : Flash → Tried → Type 0
     StillTried f o = Still f (o .answer) (o .flash)
@@ -176,37 +182,37 @@ module _ (n s seq : ℕ) (r : Raw) (old : List Raw) (w : Writable r old) (next :
         (tries-still m (head + 1) (program s head slot f .answer) (program s head slot f .flash) (e .cut) (e .fails))))
 
     -- one try, and `rest` is what follows where it failed
-    one-try : (head : ℕ) (f : Flash) (o : Stepped) (rest : Tried) → head < 256 → Here (f .image) head old → Ran s head slot f o
+    one-try : (head : ℕ) (f : Flash) (o : Stepped) (rest : Tried) → head < 256 → low ≤ head → Here (f .image) head old → Ran s head slot f o
         → (o .flash .cut ≡ false → Here (o .flash .image) (head + 1) old → Fails (o .answer) → Attempted rest)
         → (Cut (o .flash) → Fails (o .answer) → StillTried (o .flash) rest)
         → Attempted (pick (isDone (o .answer)) (record { full = false; answer = Done; head = head + 1; flash = o .flash }) rest)
-    one-try head f o rest h g (Ran.refused i e c is) on still = rw e (on c (subst (λ (l : List ℕ). Here l (head + 1) old) (sym is) (here-past (f .image) head g h)) e)
-    one-try head f o rest h g (Ran.done i e c is u) on still = rw e (written refl refl c (here-whole (f .image) head g h (o .flash .image) is))
-    one-try head f o rest h g (Ran.stopped i e c k l is) on still =
+    one-try head f o rest h under g (Ran.refused i e c is) on still = rw e (on c (subst (λ (l : List ℕ). Here l (head + 1) old) (sym is) (here-past (f .image) head g h)) e)
+    one-try head f o rest h under g (Ran.done i e c is u) on still = rw e (written refl refl c (here-whole (f .image) head g h (o .flash .image) is))
+    one-try head f o rest h under g (Ran.stopped i e c k l is) on still =
         let z = still c e in
-        rw e (cut (z .fails) (z .cut) (λ lucky. subst Woken (sym (z .same)) (go (here-cut (f .image) head g h lucky k l (o .flash .image) is))))
+        rw e (cut (z .fails) (z .cut) (λ lucky. subst Woken (sym (z .same)) (go (here-cut (f .image) head g h low under k l (o .flash .image) is (subst Lucky (z .same) lucky)))))
       where
         go : (Here (o .flash .image) (head + 1) old) ⊎ (Here (o .flash .image) (head + 1) new) → Woken (o .flash .image)
         go (inl a) = record { state = Active s seq (head + 1); next = next; t = old; agrees = a; shows = inl p }
         go (inr a) = record { state = Active s seq (head + 1); next = next; t = new; agrees = a; shows = inr refl }
 
-    tries-attempted : (m head : ℕ) (last : Answer) (f : Flash) → f .cut ≡ false → Fails last → Here (f .image) head old → Attempted (triesFrom m s head slot last f)
+    tries-attempted : (m head : ℕ) (last : Answer) (f : Flash) → low ≤ head → f .cut ≡ false → Fails last → Here (f .image) head old → Attempted (triesFrom m s head slot last f)
     unfolding triesFrom
-    tries-attempted zero head last f on h g = refused refl h on g
-    tries-attempted (suc m) head last f on h g =
+    tries-attempted zero head last f under on h g = refused refl h on g
+    tries-attempted (suc m) head last f under on h g =
         by-test Attempted (eqb head 256) _ _ (λ _. filled refl (g .found .placed .high) on g)
         (λ e.
         let unlike = eqb-false head 256 e in
         let room : head < 256 = omega (arith, g .found .placed .high) in
-        one-try head f (program s head slot f) _ room g
+        one-try head f (program s head slot f) _ room under g
         (program-ran s head slot f on (g .found .erased head (omega arith) room) (slot-sixteen seq (fits (f .image) head g room) r (w .whole)) (slot-bytes seq (fits (f .image) head g room) r (w .whole)))
-        (λ c i z. tries-attempted m (head + 1) (program s head slot f .answer) (program s head slot f .flash) c z i)
+        (λ c i z. tries-attempted m (head + 1) (program s head slot f .answer) (program s head slot f .flash) (omega arith) c z i)
         (λ c z. tries-still m (head + 1) (program s head slot f .answer) (program s head slot f .flash) c z))
 
     -- ---- the append
-    pub append-safe : (head : ℕ) (f : Flash) → f .cut ≡ false → Here (f .image) head old → Safe n Lucky P old new (appendOf n s seq head next r new f)
+    pub append-safe : (f : Flash) → f .cut ≡ false → Here (f .image) low old → Safe n Lucky P old new (appendOf n s seq low next r new f)
     unfolding appendOf
-    append-safe head f on g = go (triesFrom 3 s head slot WriteError f) (tries-attempted 3 head WriteError f on refl g)
+    append-safe f on g = go (triesFrom 3 s low slot WriteError f) (tries-attempted 3 low WriteError f (omega arith) on refl g)
       where
         go : (o : Tried) → Attempted o → Safe n Lucky P old new (pick (o .full) (commitAfter n s new (Active s seq (o .head)) next (o .flash)) (record { answer = o .answer; state = Active s seq (o .head); next = next; flash = o .flash }))
         go o (filled e l c i) =
@@ -217,5 +223,5 @@ module _ (n s seq : ℕ) (r : Raw) (old : List Raw) (w : Writable r old) (next :
             by-test (Safe n Lucky P old new) (o .full) _ _
             (λ _.
             let z = commit-still n n s (after n s) new WriteError (Active s seq (o .head)) next (o .flash) c refl in
-            stopped (z .fails) (z .cut) (λ lucky. subst Woken (sym (z .same)) (i lucky)))
+            stopped (z .fails) (z .cut) (λ lucky. subst Woken (sym (z .same)) (i (subst Lucky (z .same) lucky))))
             (λ _. stopped d c i)

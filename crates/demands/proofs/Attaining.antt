@@ -35,7 +35,7 @@ Attains image later run =
     ⊎ ((f : Flash) → (run f .flash ≡ f) × Fails (run f .answer))
 
 -- a call that is safe for the table that it attains is safe for the table after it
-pub attained : (n : ℕ) (C : Type 0) (P : Seen → Type 0) (later : Table) (image : List ℕ) (plan : Plan) (run : Flash → Outcome) → Attains image later run
+pub attained : (n : ℕ) (C : List ℕ → Type 0) (P : Seen → Type 0) (later : Table) (image : List ℕ) (plan : Plan) (run : Flash → Outcome) → Attains image later run
     → SafeCall n C P later (run (flashOf image plan)) → SafeCall n C P (tableOf (run (flashOf image healthy) .log)) (run (flashOf image plan))
 attained n C P later image plan run (inl k) s =
     subst (λ (z : Table). SafeCall n C P z (run (flashOf image plan))) (sym (k (flashOf image healthy) refl refl (record { endless = refl; erasing = refl; willing = refl }))) s

@@ -39,10 +39,10 @@ use Rattle.demands.specs.Chance.{Unmatched}
 use Rattle.demands.specs.Healthy.{healthy}
 use Rattle.demands.specs.Shown.{Seen, seenBy, seen, Table, holding, tableIn, tableOf}
 use Rattle.demands.specs.Typed.{TypedAnchor, TypedSeeds}
-use Rattle.demands.specs.Calls.{Call, put, put-value, put-anchor, format, spend, set-tries, advance-lamport, outcomeOf, Typed, tableAfter, AnchorLeft, Left, anchorTo, NoChance}
+use Rattle.demands.specs.Calls.{Call, put, put-value, put-anchor, format, spend, set-tries, advance-lamport, outcomeOf, Typed, tableAfter, AnchorLeft, Left, recordOf, anchorTo, appendsTo}
 use Rattle.demands.proofs.Tables.{Proper, proper-none, Writable}
 use Rattle.demands.proofs.Invariant.{Inv}
-use Rattle.demands.proofs.Performing.{SafeCall, refusal-safe, safe-weaker, Writes, writes-writable, decidedTable, performed-safe, formatted-safe}
+use Rattle.demands.proofs.Performing.{Always, SafeCall, refusal-safe, safe-weaker, Writes, writes-writable, decidedTable, performed-safe, formatted-safe}
 use Rattle.demands.proofs.Attaining.{Attains, attained, performed-attains, formatted-attains}
 use Rattle.demands.proofs.First.{OrEmpty, first-safe, first-attains}
 use Rattle.demands.proofs.Deciding.{Sound, put-sound, value-sound, anchor-writes, anchor-sound, anchor-first-writes, seeded-proper}
@@ -66,7 +66,7 @@ module _ (image : List ℕ) (log : Log) (i : Inv image log) (known : Bool) (call
       go true e = attains e
       go false e = inr (λ f. (refl, e))
 
-  module _ (C : Type 0) (P : Seen → Type 0) (p : P (seen log)) (plan : Plan) (later : Table) where
+  module _ (C : List ℕ → Type 0) (P : Seen → Type 0) (p : P (seen log)) (plan : Plan) (later : Table) where
     run-safe : (isDone (entryAnswer n log known) ≡ true → SafeCall n C P later (call n log (flashOf image plan))) → SafeCall n C P later (run (flashOf image plan))
     run-safe safe = by-test (SafeCall n C P later) (isDone (entryAnswer n log known)) _ _ safe (λ e. refusal-safe C P (refused (entryAnswer n log known) log (flashOf image plan)) refl i p later e)
 
@@ -119,10 +119,10 @@ module _ (image : List ℕ) (log : Log) (i : Inv image log) where
       seeded-proper (take count seeds) [] (typed-take count seeds typed) (omega arith) proper-none
 
   pub format-safe : (seeds : List Seed) (count : ℕ) → TypedSeeds seeds → (plan : Plan)
-      → SafeCall (sectorsIn (length image)) (Unit {0}) (λ z. z ≡ seen log) (tableOf (formatOf image log healthy seeds count .log)) (formatOf image log plan seeds count)
+      → SafeCall (sectorsIn (length image)) Always (λ z. z ≡ seen log) (tableOf (formatOf image log healthy seeds count .log)) (formatOf image log plan seeds count)
   unfolding formatOf
   format-safe seeds count typed plan =
-      entered-safe image log i (seedsKnown seeds count) (λ (n : ℕ) (l : Log) (f : Flash). formatOn (l .state) t n l f) (Unit {0}) (λ z. z ≡ seen log) refl plan (holding t)
+      entered-safe image log i (seedsKnown seeds count) (λ (n : ℕ) (l : Log) (f : Flash). formatOn (l .state) t n l f) Always (λ z. z ≡ seen log) refl plan (holding t)
       (λ e. safe (seeds-proper seeds count typed (known e)) (log .state) refl) (λ e. attains (seeds-proper seeds count typed (known e)) (log .state) refl)
     where
       t : List Raw
@@ -131,10 +131,10 @@ module _ (image : List ℕ) (log : Log) (i : Inv image log) where
       known : isDone (entryAnswer (sectorsIn (length image)) log (seedsKnown seeds count)) ≡ true → seedsKnown seeds count ≡ true
       known e = let-in-by (sectorsIn (length image)) log (seedsKnown seeds count) e .2
 
-      safe : Proper t → (z : State) → log .state ≡ z → SafeCall (sectorsIn (length image)) (Unit {0}) (λ x. x ≡ seen log) (holding t) (formatOn z t (sectorsIn (length image)) log (flashOf image plan))
+      safe : Proper t → (z : State) → log .state ≡ z → SafeCall (sectorsIn (length image)) Always (λ x. x ≡ seen log) (holding t) (formatOn z t (sectorsIn (length image)) log (flashOf image plan))
       safe proper Unformatted e = formatted-safe (flashOf image plan) log refl i e t proper
-      safe proper Failed e = refusal-safe (Unit {0}) (λ x. x ≡ seen log) _ refl i refl (holding t) refl
-      safe proper (Active sector seq head) e = refusal-safe (Unit {0}) (λ x. x ≡ seen log) _ refl i refl (holding t) refl
+      safe proper Failed e = refusal-safe Always (λ x. x ≡ seen log) _ refl i refl (holding t) refl
+      safe proper (Active sector seq head) e = refusal-safe Always (λ x. x ≡ seen log) _ refl i refl (holding t) refl
 
       attains : Proper t → (z : State) → log .state ≡ z → Attains image (holding t) (formatOn z t (sectorsIn (length image)) log)
       attains proper Unformatted e = formatted-attains image log i e t proper
@@ -191,7 +191,7 @@ module _ (image : List ℕ) (log : Log) (i : Inv image log) where
           n : ℕ
           n = sectorsIn (length image)
 
-          C : Type 0
+          C : List ℕ → Type 0
           C = Unmatched (formatted [] n log (flashOf image plan) .log .state) r
 
           own : isFirst new ≡ true → (z : Seen) → OrEmpty log z → AnchorLeft Unformatted new log z
@@ -203,7 +203,7 @@ module _ (image : List ℕ) (log : Log) (i : Inv image log) where
 
           go : (b : Bool) → isFirst new ≡ b → SafeCall n C (AnchorLeft Unformatted new log) (tableOf (entered image log healthy true (call b) .log)) (entered image log plan true (call b))
           go true f =
-              safe-weaker n C C (OrEmpty log) (AnchorLeft Unformatted new log) _ _ (λ u. u) (own f)
+              safe-weaker n C C (OrEmpty log) (AnchorLeft Unformatted new log) _ _ (λ _ u. u) (own f)
               (entered-safe image log i true (call true) C (OrEmpty log) (inl refl) plan (holding (joined r []))
               (λ _. first-safe deciding sound r (first-writes f) log e (flashOf image plan) refl i)
               (λ _. first-attains deciding sound r (first-writes f) log e image i))
@@ -211,8 +211,8 @@ module _ (image : List ℕ) (log : Log) (i : Inv image log) where
               entered-safe image log i true (call false) C (AnchorLeft Unformatted new log) (inl refl) plan (tableOf log)
               (λ _. refusal-safe C (AnchorLeft Unformatted new log) _ refl i (inl refl) (tableOf log) refl) (λ _. inr (λ g. (refl, refl)))
       by-state Failed e =
-          entered-safe image log i true (by Failed) (Unit {0}) (λ x. x ≡ seen log) refl plan (tableOf log)
-          (λ _. refusal-safe (Unit {0}) (λ x. x ≡ seen log) _ refl i refl (tableOf log) refl) (λ _. inr (λ g. (refl, refl)))
+          entered-safe image log i true (by Failed) Always (λ x. x ≡ seen log) refl plan (tableOf log)
+          (λ _. refusal-safe Always (λ x. x ≡ seen log) _ refl i refl (tableOf log) refl) (λ _. inr (λ g. (refl, refl)))
       by-state (Active sector seq head) e =
           let keyed = keyed-safe true anchorTag 0 (λ (held : OptRaw) (room : Bool). anchorDecision held room new) (λ t. r) (anchor-sound new typed) plan in
           subst (λ (z : State). SafeCall (sectorsIn (length image)) (Unmatched z r) (λ x. x ≡ seen log) (tableOf (entered image log healthy true (anchorCall new) .log)) (entered image log plan true (anchorCall new))) e keyed
@@ -223,7 +223,7 @@ module _ (image : List ℕ) (log : Log) (i : Inv image log) where
 
 -- ---- every call
 pub call-safe : (image : List ℕ) (log : Log) → Inv image log → (c : Call) → Typed c → (plan : Plan)
-    → SafeCall (sectorsIn (length image)) (NoChance c image log plan) (Left c log) (tableAfter c image log) (outcomeOf c image log plan)
+    → SafeCall (sectorsIn (length image)) (Unmatched (appendsTo c image log plan) (recordOf c (recordsOf log))) (Left c log) (tableAfter c image log) (outcomeOf c image log plan)
 unfolding putOf putValueOf spendOf setOf advanceOf
 call-safe image log i (put credential new) typed plan =
     keyed-safe image log i (isCredential credential) counterTag credential (λ (held : OptRaw) (room : Bool). putDecision held room credential new) (λ t. counterRecord credential new) (put-sound credential new (typed .0) (typed .1)) plan

@@ -143,18 +143,18 @@ pub record Wakes (n : ℕ) (P : Seen → Type 0) (later : Table) (image : List �
   pub agrees : Agrees n image state next t
   pub shows : P (seenBy state t) ⊎ (tableIn (seenBy state t) ≡ later)
 
--- old and new are the tables before and after; P says what may be seen of a write that failed, C what must be known of one that was cut
-pub data Safe (n : ℕ) (C : Type 0) (P : Seen → Type 0) (old new : List Raw) (w : Wrote) : Type 0 where
+-- old and new are the tables before and after; P says what may be seen of a write that failed, C what must be known of the image of one that was cut
+pub data Safe (n : ℕ) (C : List ℕ → Type 0) (P : Seen → Type 0) (old new : List Raw) (w : Wrote) : Type 0 where
   done : isDone (w .answer) ≡ true → w .flash .cut ≡ false → Agrees n (w .flash .image) (w .state) (w .next) new → tableIn (seenBy (w .state) new) ≡ holding new → Safe n C P old new w
   failed : Fails (w .answer) → w .flash .cut ≡ false → Agrees n (w .flash .image) (w .state) (w .next) old → P (seenBy (w .state) old) → Safe n C P old new w
-  stopped : Fails (w .answer) → Cut (w .flash) → (C → Wakes n P (holding new) (w .flash .image)) → Safe n C P old new w
+  stopped : Fails (w .answer) → Cut (w .flash) → (C (w .flash .image) → Wakes n P (holding new) (w .flash .image)) → Safe n C P old new w
 
 -- after a cut nothing changes any more
 abbrev pub StillWrote : Flash → Wrote → Type 0
 StillWrote f w = Still f (w .answer) (w .flash)
 
-still-safe : (n : ℕ) (C : Type 0) (P : Seen → Type 0) (old new : List Raw) (f : Flash) (w : Wrote) → StillWrote f w → (C → Wakes n P (holding new) (f .image)) → Safe n C P old new w
-still-safe n C P old new f w s k = stopped (s .fails) (s .cut) (λ c. subst (Wakes n P (holding new)) (sym (s .same)) (k c))
+still-safe : (n : ℕ) (C : List ℕ → Type 0) (P : Seen → Type 0) (old new : List Raw) (f : Flash) (w : Wrote) → StillWrote f w → (C (f .image) → Wakes n P (holding new) (f .image)) → Safe n C P old new w
+still-safe n C P old new f w s k = stopped (s .fails) (s .cut) (λ c. subst (Wakes n P (holding new)) (sym (s .same)) (k (subst C (s .same) c)))
 
 sector-still : (s seq : ℕ) (t : List Raw) (f : Flash) → Cut f → Still f (writeSector s seq t f .answer) (writeSector s seq t f .flash)
 sector-still s seq t f c =
@@ -173,7 +173,7 @@ commit-still (suc m) n a s t last state next f c h =
     still-on f (writeSector s next t f .flash) _ (writeSector s next t f .answer) _ e
     (commit-still m n a (after n s) t (writeSector s next t f .answer) state (next + 1) (writeSector s next t f .flash) (e .cut) (e .fails)))))
 
-module _ (n a : ℕ) (C : Type 0) (P : Seen → Type 0) (state : State) (v : Avoids state n a) (old new : List Raw) (proper : Proper new) (p : P (seenBy state old)) where
+module _ (n a : ℕ) (C : List ℕ → Type 0) (P : Seen → Type 0) (state : State) (v : Avoids state n a) (old new : List Raw) (proper : Proper new) (p : P (seenBy state old)) where
   abbrev Fine : Wrote → Type 0
   Fine w = Safe n C P old new w
 

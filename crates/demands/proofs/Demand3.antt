@@ -11,7 +11,9 @@ use Rattle.flash.specs.Image.{sectorsIn}
 use Rattle.scan.specs.Opening.{openOf}
 use Rattle.performing.specs.Outcomes.{Outcome}
 use Rattle.demands.specs.Shown.{Seen, seen, Table, tableIn, tableOf}
-use Rattle.demands.specs.Calls.{Typed, tableAfter, Left, NoChance}
+use Rattle.records.specs.Logs.{recordsOf}
+use Rattle.demands.specs.Chance.{Unmatched}
+use Rattle.demands.specs.Calls.{Typed, tableAfter, Left, recordOf, appendsTo}
 use Rattle.demands.specs.Sessions.{World, opened, Made, outcome, afterwards, played, AllTyped, Lasts}
 use Rattle.demands.specs.Demand3.{FindsAgain, WakesWith}
 use Rattle.demands.proofs.Invariant.{Inv, inv-open, open-inv}
@@ -22,7 +24,7 @@ abbrev pub Agree : World → Type 0
 Agree w = Inv (w .image) (w .log)
 
 -- ---- while power lasts
-safe-agrees : (n : ℕ) (C : Type 0) (P : Seen → Type 0) (later : Table) (o : Outcome) → o .flash .cut ≡ false → SafeCall n C P later o → Agree (afterwards o)
+safe-agrees : (n : ℕ) (C : List ℕ → Type 0) (P : Seen → Type 0) (later : Table) (o : Outcome) → o .flash .cut ≡ false → SafeCall n C P later o → Agree (afterwards o)
 safe-agrees n C P later o e (lasted on z i d) = i
 safe-agrees n C P later o e (stopped c k w) = absurd (false≢true (sym e ∙ c .marked))
 
@@ -31,7 +33,7 @@ unfolding played AllTyped Lasts
 played-agrees [] w i typed lasts = i
 played-agrees (m ∷ ms) w i typed lasts =
     played-agrees ms (afterwards (outcome m w))
-    (safe-agrees (sectorsIn (length (w .image))) (NoChance (m .call) (w .image) (w .log) (m .plan)) (Left (m .call) (w .log)) (tableAfter (m .call) (w .image) (w .log)) (outcome m w) (lasts .0)
+    (safe-agrees (sectorsIn (length (w .image))) (Unmatched (appendsTo (m .call) (w .image) (w .log) (m .plan)) (recordOf (m .call) (recordsOf (w .log)))) (Left (m .call) (w .log)) (tableAfter (m .call) (w .image) (w .log)) (outcome m w) (lasts .0)
     (call-safe (w .image) (w .log) i (m .call) (typed .0) (m .plan)))
     (typed .1) (lasts .1)
 
@@ -39,7 +41,7 @@ agrees-finds : (w : World) → Agree w → FindsAgain w
 agrees-finds w i = let found = inv-open (w .image) (w .log) i in record { same = found .0; head = found .1 }
 
 -- ---- one call more
-safe-wakes : (w : World) (m : Made) → SafeCall (sectorsIn (length (w .image))) (NoChance (m .call) (w .image) (w .log) (m .plan)) (Left (m .call) (w .log)) (tableAfter (m .call) (w .image) (w .log)) (outcome m w) → WakesWith w m
+safe-wakes : (w : World) (m : Made) → SafeCall (sectorsIn (length (w .image))) (Unmatched (appendsTo (m .call) (w .image) (w .log) (m .plan)) (recordOf (m .call) (recordsOf (w .log)))) (Left (m .call) (w .log)) (tableAfter (m .call) (w .image) (w .log)) (outcome m w) → WakesWith w m
 safe-wakes w m (lasted on z i (inl d)) =
     let found = inv-open (outcome m w .flash .image) (outcome m w .log) i .0 in
     record {

@@ -30,7 +30,7 @@ use Rattle.demands.proofs.Tables.{proper-none, Writable}
 use Rattle.demands.proofs.Invariant.{Inv}
 use Rattle.demands.proofs.Endings.{Fails}
 use Rattle.demands.proofs.Reaching.{commit-used-idle}
-use Rattle.demands.proofs.Performing.{WakesUp, SafeCall, lasted, stopped, safe-weaker, seen-of, decidedTable, performed-safe, formatted-safe}
+use Rattle.demands.proofs.Performing.{Always, WakesUp, SafeCall, lasted, stopped, safe-weaker, seen-of, decidedTable, performed-safe, formatted-safe}
 use Rattle.demands.proofs.Attaining.{Attains}
 use Rattle.demands.proofs.Succeeding.{Succeeds, performed-appends, formatted-succeeds}
 
@@ -60,7 +60,7 @@ module _ (decide : Log → Decision) (sound : (l : Log) → decide l .write ≡ 
       ∙ ap₂ (λ (x : Raw) (t : List Raw). holding (joined x t)) (decides l e .1) (none-held l e)
 
   module _ (n : ℕ) where
-    then-safe : (o : Outcome) → SafeCall n (Unit {0}) (λ z. z ≡ seen log) (holding []) o → SafeCall n (Unmatched (o .log .state) r) (OrEmpty log) (holding (joined r [])) (formatThen decide n o)
+    then-safe : (o : Outcome) → SafeCall n Always (λ z. z ≡ seen log) (holding []) o → SafeCall n (Unmatched (o .log .state) r) (OrEmpty log) (holding (joined r [])) (formatThen decide n o)
     then-safe o (lasted c z i (inl d)) =
         let l = o .log in
         let writes = decides l (d .1) in
@@ -70,7 +70,7 @@ module _ (decide : Log → Decision) (sound : (l : Log) → decide l .write ≡ 
         let there = subst (λ (t : Table). SafeCall n (Unmatched (l .state) r) (λ x. x ≡ seen l) t (performed (decide l) n l (o .flash))) (decided-table l (d .1)) here in
         rw (d .0)
         (safe-weaker n (Unmatched (l .state) r) (Unmatched (l .state) r) (λ x. x ≡ seen l) (OrEmpty log) (holding (joined r [])) (performed (decide l) n l (o .flash))
-        (λ u. u) (λ x e. inr (ap tableIn e ∙ d .1)) there)
+        (λ _ u. u) (λ x e. inr (ap tableIn e ∙ d .1)) there)
     then-safe o (lasted c z i (inr d)) = rw (d .0) (lasted c z i (inr (d .0, inl (d .1))))
     then-safe o (stopped c e k) = rw e (stopped c e (λ _. go (k tt)))
       where
@@ -96,7 +96,7 @@ module _ (decide : Log → Decision) (sound : (l : Log) → decide l .write ≡ 
       next : ℕ
       next = log .«next_seq»
 
-      go : Succeeds f 0 (logOf (Active 0 next 1) (next + 1) []) 16 4096 o → SafeCall n (Unit {0}) (λ z. z ≡ seen log) (holding []) o → tableOf (formatThen decide n o .log) ≡ holding (joined r [])
+      go : Succeeds f 0 (logOf (Active 0 next 1) (next + 1) []) 16 4096 o → SafeCall n Always (λ z. z ≡ seen log) (holding []) o → tableOf (formatThen decide n o .log) ≡ holding (joined r [])
       go x (stopped c k w) = absurd (false≢true (sym (x .on) ∙ c .marked))
       go x (lasted c z j (inr d)) = absurd (false≢true (sym (d .0) ∙ ap isDone (x .answer)))
       go x (lasted c z j (inl d)) =

@@ -8,7 +8,6 @@ use lib.ListN.{length}
 use Rattle.basics.specs.Choice.{pick}
 use Rattle.basics.specs.Answers.{isDone}
 use Rattle.codec.specs.declared.Raw.{Raw}
-use Rattle.codec.specs.Slots.{slotOf}
 use Rattle.flash.specs.Image.{sectorsIn}
 use Rattle.flash.specs.Run.{Flash}
 use Rattle.records.specs.declared.State.{State}
@@ -21,7 +20,7 @@ use Rattle.writing.specs.Commits.{Wrote, commitFirst}
 use Rattle.deciding.specs.declared.Decision.{Decision}
 use Rattle.performing.specs.Outcomes.{Outcome}
 use Rattle.performing.specs.Performing.{wroteOutcome, appended, performed, formatted}
-use Rattle.demands.specs.Chance.{ChanceMatch, Unmatched}
+use Rattle.demands.specs.Chance.{Unmatched}
 use Rattle.demands.specs.Shown.{Seen, seenBy, seen, Table, holding, tableIn, tableOf}
 use Rattle.demands.proofs.Tables.{Proper, Writable}
 use Rattle.demands.proofs.Invariant.{Agrees, Inv, inv-of}
@@ -30,19 +29,23 @@ use Rattle.demands.proofs.Commits.{Wakes, Safe, commit-safe}
 use Rattle.demands.proofs.Appends.{append-safe}
 
 -- ---- a call that is safe
+-- nothing needs to be known
+abbrev pub Always : List ℕ → Type 0
+Always left = Unit {0}
+
 -- an image that was cut wakes with what P allows, or with the table of after
 pub record WakesUp (P : Seen → Type 0) (later : Table) (image : List ℕ) : Type 0 where
   pub log : Log
   pub inv : Inv image log
   pub shows : P (seen log) ⊎ (tableOf log ≡ later)
 
--- P says what may be seen of a call that failed, C what must be known of one that was cut
-pub data SafeCall (n : ℕ) (C : Type 0) (P : Seen → Type 0) (later : Table) (o : Outcome) : Type 0 where
+-- P says what may be seen of a call that failed, C what must be known of the image of one that was cut
+pub data SafeCall (n : ℕ) (C : List ℕ → Type 0) (P : Seen → Type 0) (later : Table) (o : Outcome) : Type 0 where
   lasted : o .flash .cut ≡ false → sectorsIn (length (o .flash .image)) ≡ n → Inv (o .flash .image) (o .log) → ((isDone (o .answer) ≡ true) × (tableOf (o .log) ≡ later)) ⊎ (Fails (o .answer) × P (seen (o .log))) → SafeCall n C P later o
-  stopped : Cut (o .flash) → Fails (o .answer) → (C → WakesUp P later (o .flash .image)) → SafeCall n C P later o
+  stopped : Cut (o .flash) → Fails (o .answer) → (C (o .flash .image) → WakesUp P later (o .flash .image)) → SafeCall n C P later o
 
 -- a log that is handed back without a write
-module _ (C : Type 0) (P : Seen → Type 0) (o : Outcome) (on : o .flash .cut ≡ false) (i : Inv (o .flash .image) (o .log)) (p : P (seen (o .log))) where
+module _ (C : List ℕ → Type 0) (P : Seen → Type 0) (o : Outcome) (on : o .flash .cut ≡ false) (i : Inv (o .flash .image) (o .log)) (p : P (seen (o .log))) where
   pub refusal-safe : (later : Table) → Fails (o .answer) → SafeCall (sectorsIn (length (o .flash .image))) C P later o
   refusal-safe later e = lasted on refl i (inr (e, p))
 
@@ -54,10 +57,10 @@ module _ (C : Type 0) (P : Seen → Type 0) (o : Outcome) (on : o .flash .cut �
       go false e = refusal-safe (tableOf (o .log)) e
 
 -- weaker demands
-pub safe-weaker : (n : ℕ) (C D : Type 0) (P Q : Seen → Type 0) (later : Table) (o : Outcome) → (D → C) → ((z : Seen) → P z → Q z) → SafeCall n C P later o → SafeCall n D Q later o
+pub safe-weaker : (n : ℕ) (C D : List ℕ → Type 0) (P Q : Seen → Type 0) (later : Table) (o : Outcome) → ((l : List ℕ) → D l → C l) → ((z : Seen) → P z → Q z) → SafeCall n C P later o → SafeCall n D Q later o
 safe-weaker n C D P Q later o c q (lasted on z i (inl d)) = lasted on z i (inl d)
 safe-weaker n C D P Q later o c q (lasted on z i (inr d)) = lasted on z i (inr (d .0, q (seen (o .log)) (d .1)))
-safe-weaker n C D P Q later o c q (stopped x e k) = stopped x e (λ d. go (k (c d)))
+safe-weaker n C D P Q later o c q (stopped x e k) = stopped x e (λ d. go (k (c (o .flash .image) d)))
   where
     go : WakesUp P later (o .flash .image) → WakesUp Q later (o .flash .image)
     go u = record { log = u .log; inv = u .inv; shows = wakes (u .shows) }
@@ -70,7 +73,7 @@ safe-weaker n C D P Q later o c q (stopped x e k) = stopped x e (λ d. go (k (c 
 pub seen-of : (state : State) (next : ℕ) (t : List Raw) → seen (logOf state next t) ≡ seenBy state t
 seen-of state next t = ap (seenBy state) (places-take t)
 
-wrote-safe : (n : ℕ) (C : Type 0) (P : Seen → Type 0) (old new : List Raw) (w : Wrote) (value : ℕ) → Safe n C P old new w → SafeCall n C P (holding new) (wroteOutcome w value new old)
+wrote-safe : (n : ℕ) (C : List ℕ → Type 0) (P : Seen → Type 0) (old new : List Raw) (w : Wrote) (value : ℕ) → Safe n C P old new w → SafeCall n C P (holding new) (wroteOutcome w value new old)
 wrote-safe n C P old new w value (Safe.done e c a s) =
     rw e (lasted c (a .sized) (inv-of n (w .flash .image) (w .state) (w .next) new a) (inl (e, ap tableIn (seen-of (w .state) (w .next) new) ∙ s)))
 wrote-safe n C P old new w value (Safe.failed e c a p) =
@@ -115,8 +118,8 @@ module _ (f : Flash) (log : Log) (on : f .cut ≡ false) (i : Inv (f .image) log
   appended-safe (Active s seq head) e r value w =
       let here = subst (λ (z : State). Agrees n (f .image) z (log .«next_seq») (recordsOf log)) e (i .agrees) in
       let before = ap (λ (z : State). seenBy z (recordsOf log)) (sym e) in
-      wrote-safe n (ChanceMatch seq (slotOf seq r) → ⊥) Same (recordsOf log) (joined r (recordsOf log)) _ value
-      (append-safe n s seq r (recordsOf log) w (log .«next_seq») Same before head f on here)
+      wrote-safe n (Unmatched (Active s seq head) r) Same (recordsOf log) (joined r (recordsOf log)) _ value
+      (append-safe n s seq r (recordsOf log) w (log .«next_seq») head Same before f on here)
 
   pub performed-safe : (d : Decision) (r : Raw) → (d .write ≡ true → Writes d r (recordsOf log)) → SafeCall n (Unmatched (log .state) r) Same (decidedTable d log) (performed d n log f)
   unfolding performed
@@ -131,12 +134,12 @@ module _ (f : Flash) (log : Log) (on : f .cut ≡ false) (i : Inv (f .image) log
       go false e = unwritten-safe (Unmatched (log .state) r) Same (record { answer = d .answer; value = d .value; log = log; flash = f }) on i refl
 
   -- ---- what comes of a format
-  pub formatted-safe : log .state ≡ Unformatted → (t : List Raw) → Proper t → SafeCall n (Unit {0}) Same (holding t) (formatted t n log f)
+  pub formatted-safe : log .state ≡ Unformatted → (t : List Raw) → Proper t → SafeCall n Always Same (holding t) (formatted t n log f)
   formatted-safe e t proper =
       let here = subst (λ (z : State). Agrees n (f .image) z (log .«next_seq») (recordsOf log)) e (i .agrees) in
       let none = here .found .0 in
       let bare = subst (λ (l : List Raw). Agrees n (f .image) Unformatted (log .«next_seq») l) none here in
       let before = ap (λ (z : State). seenBy z (recordsOf log)) (sym e) in
-      subst (λ (z : State). SafeCall n (Unit {0}) Same (holding t) (wroteOutcome (commitFirst n t z (log .«next_seq») f) 0 t [])) (sym e)
-      (wrote-safe n (Unit {0}) Same [] t (commitFirst n t Unformatted (log .«next_seq») f) 0
-      (commit-safe n n (Unit {0}) Same Unformatted refl [] t proper before n 0 _ (log .«next_seq») f (here .found .1) on refl bare))
+      subst (λ (z : State). SafeCall n Always Same (holding t) (wroteOutcome (commitFirst n t z (log .«next_seq») f) 0 t [])) (sym e)
+      (wrote-safe n Always Same [] t (commitFirst n t Unformatted (log .«next_seq») f) 0
+      (commit-safe n n Always Same Unformatted refl [] t proper before n 0 _ (log .«next_seq») f (here .found .1) on refl bare))

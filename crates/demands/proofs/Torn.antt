@@ -122,7 +122,7 @@ decoded-or seq slot = go (isRecordWith (crcUnder seq (take 12 slot)) slot)
     go true = inr refl
     go false = inl refl
 
-module _ (seq : ℕ) (fits : seq < 2 ^ 32) (r : Raw) (w : Whole r) (unlucky : ChanceMatch seq (slotOf seq r) → ⊥) (k : ℕ) (most : k ≤ 16) where
+module _ (seq : ℕ) (fits : seq < 2 ^ 32) (r : Raw) (w : Whole r) (k : ℕ) (most : k ≤ 16) (unlucky : (m : ChanceMatch seq (slotOf seq r)) → m .k ≡ k → ⊥) where
   abbrev slot : List ℕ
   slot = slotOf seq r
 
@@ -153,7 +153,7 @@ module _ (seq : ℕ) (fits : seq < 2 ^ 32) (r : Raw) (w : Whole r) (unlucky : Ch
         high = h;
         matches = match;
         differs = λ d. false≢true (sym e ∙ ap (λ (l : List ℕ). same l slot) d ∙ same-refl slot);
-      }))
+      }) refl)
 
   late : 12 ≤ k → (read : Raw) → Sealed seq (cutAt k slot) read → cutAt k slot ≡ slot
   unfolding slotOf

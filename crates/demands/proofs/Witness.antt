@@ -86,7 +86,7 @@ unmatched m = false≢true (sym (clash (m .k) (m .low) (m .high)) ∙ eq-eqb (cr
 
 pub lucky : NoChance (spend 1 3) (played session (opened stick) .image) (played session (opened stick) .log) (pulled .plan)
 unfolding stick session pulled played heldOf holds placeOf startOf formatOf entered entryAnswer sectorsIn logFits allZeros keysFit allAre allKnown seeded placeFrom joined openOf scanOf bestFrom headerOf slotAt same commitFrom writeSector erase sectorAt withSector writeRecords program withSlot landed slotOf crcUnder crc32Of feed eat turns turn finished leBytes leNumber headerSlot
-lucky = unmatched
+lucky h low high m e = unmatched m
 
 -- so the statement speaks of this stick, which wakes with three tries or two
 blank : T (areBytes stick)

@@ -103,6 +103,6 @@ appendsTo (spend credential current) image log plan = log .state
 appendsTo (set-tries credential tries) image log plan = log .state
 appendsTo (advance-lamport latest) image log plan = log .state
 
--- the chance match doesn't occur
+-- what was cut is no chance match
 abbrev pub NoChance : Call → List ℕ → Log → Plan → Type 0
-NoChance c image log plan = Unmatched (appendsTo c image log plan) (recordOf c (recordsOf log))
+NoChance c image log plan = Unmatched (appendsTo c image log plan) (recordOf c (recordsOf log)) (outcomeOf c image log plan .flash .image)

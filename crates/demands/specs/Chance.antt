@@ -1,10 +1,11 @@
 -- "The chance match of demand 3": a slot of which the first k bytes were programmed may read as a record by chance.
 use mathlib.Core.Path.{_≡_}
 use mathlib.Core.List.{List, _++_}
-use Prim.Native.Nat.{ℕ, _-_, _≤_}
+use Prim.Native.Nat.{ℕ, _-_, _≤_, _<_}
 use lib.ListN.{take, replicate}
 use Rattle.codec.specs.declared.Raw.{Raw}
 use Rattle.codec.specs.Slots.{crcUnder, slotOf}
+use Rattle.flash.specs.Image.{slotAt}
 use Rattle.records.specs.declared.State.{State}
 use Rattle.records.specs.declared.State.the-variants.{Unformatted, Failed, Active}
 
@@ -20,8 +21,9 @@ pub record ChanceMatch (seq : ℕ) (slot : List ℕ) : Type 0 where
   pub matches : crcUnder seq (take 12 (cutAt k slot)) ≡ 0xFFFF_FFFF
   pub differs : cutAt k slot ≡ slot → ⊥
 
--- no chance match of this record in the active sector
-abbrev pub Unmatched : State → Raw → Type 0
-Unmatched Unformatted r = Unit {0}
-Unmatched Failed r = Unit {0}
-Unmatched (Active sector seq head) r = ChanceMatch seq (slotOf seq r) → ⊥
+-- of the active sector no slot from head on was left as a chance match of this record
+abbrev pub Unmatched : State → Raw → List ℕ → Type 0
+Unmatched Unformatted r left = Unit {0}
+Unmatched Failed r left = Unit {0}
+Unmatched (Active sector seq head) r left =
+    (h : ℕ) → head ≤ h → h < 256 → (m : ChanceMatch seq (slotOf seq r)) → slotAt left sector h ≡ cutAt (m .k) (slotOf seq r) → ⊥
