@@ -24,5 +24,6 @@ pub mod Wearing
 pub mod Figures
 pub mod Leaving
 pub mod Demand2
+pub mod Sparing
 pub mod Spends
 pub mod Witness

@@ -25,7 +25,7 @@ module _ (R : Flash → Flash → Type 0) (stays : (f : Flash) → R f f) (follo
     (Slot : ℕ → ℕ → Type 0) (Sector : ℕ → Type 0)
     (programs : (s k : ℕ) (new : List ℕ) (f : Flash) → Slot s k → R f (program s k new f .flash))
     (erases : (s : ℕ) (f : Flash) → Sector s → R f (erase s f .flash)) where
-  records-trace : (s seq k : ℕ) (t : List Raw) (f : Flash) → ((i : ℕ) → k ≤ i → i < k + length t → Slot s i) → R f (writeRecords s seq k t f .flash)
+  pub records-trace : (s seq k : ℕ) (t : List Raw) (f : Flash) → ((i : ℕ) → k ≤ i → i < k + length t → Slot s i) → R f (writeRecords s seq k t f .flash)
   unfolding writeRecords
   records-trace s seq k [] f may = stays f
   records-trace s seq k (r ∷ t) f may =
@@ -38,7 +38,7 @@ module _ (R : Flash → Flash → Type 0) (stays : (f : Flash) → R f f) (follo
   done-trace f o next a b =
       by-test (λ (x : Stepped). R f (x .flash)) (isDone (o .answer)) (next (o .flash)) o (λ _. follows f (o .flash) (next (o .flash) .flash) a (b (o .flash))) (λ _. a)
 
-  sector-trace : (s seq : ℕ) (t : List Raw) (f : Flash) → Sector s → ((i : ℕ) → i ≤ length t → Slot s i) → R f (writeSector s seq t f .flash)
+  pub sector-trace : (s seq : ℕ) (t : List Raw) (f : Flash) → Sector s → ((i : ℕ) → i ≤ length t → Slot s i) → R f (writeSector s seq t f .flash)
   unfolding writeSector
   sector-trace s seq t f wipe may =
       done-trace f (erase s f) (λ (g : Flash). onDone (writeRecords s seq 1 t g) (λ (h : Flash). program s 0 (headerSlot seq) h)) (erases s f wipe)

@@ -11,3 +11,7 @@ pub record Healthy (f : Flash) : Type 0 where
 
 abbrev pub healthy : Plan
 healthy = record { limited = false; units = 0; «refuse_erase» = false; «refuse_programs» = 0 }
+
+-- the same plan without a limit
+abbrev pub unlimited : Plan → Plan
+unlimited plan = record { limited = false; units = 0; «refuse_erase» = plan .«refuse_erase»; «refuse_programs» = plan .«refuse_programs» }
