@@ -1,0 +1,194 @@
+-- Demand 1: a call that fails a test is refused before anything else, and a write answers 0, 6 or 7 only.
+use mathlib.Core.Path.{_≡_, refl, sym, ap, _∙_}
+use mathlib.Core.Bool.{Bool, true, false, false≢true}
+use mathlib.Core.List.{List, [], _∷_}
+use Prim.Native.Nat.{ℕ, zero, suc, _+_}
+use lib.Dec.{eqb}
+use lib.ListN.{length}
+use borrow.Author.Tests.{eq-eqb, ne-eqb}
+use Rattle.basics.specs.Choice.{pick}
+use Rattle.basics.specs.Lists.{same}
+use Rattle.basics.specs.Answers.{isDone}
+use Rattle.basics.specs.declared.Answer.{Answer}
+use Rattle.basics.specs.declared.Answer.the-variants.{Done, BadImage, BadLog, BadId, NotFormatted, ReadError, WriteError}
+use Rattle.basics.proofs.Choice.{by-test}
+use Rattle.codec.specs.declared.Raw.{Raw}
+use Rattle.codec.specs.Slots.{slotOf, headerSlot}
+use Rattle.flash.specs.declared.Plan.{Plan}
+use Rattle.flash.specs.Image.{sectorsIn}
+use Rattle.flash.specs.Run.{Flash, Stepped, program, erase}
+use Rattle.flash.proofs.Steps.{Programmed, program-refused, program-stopped, program-whole, program-outcome, Erased, erase-refused, erase-stopped, erase-whole, erase-outcome}
+use Rattle.records.specs.declared.State.{State}
+use Rattle.records.specs.declared.State.the-variants.{Unformatted, Active, Failed}
+use Rattle.records.specs.declared.Log.{Log}
+use Rattle.fitting.specs.Fitting.{logFits}
+use Rattle.writing.specs.Sectors.{onDone, writeRecords, writeSector}
+use Rattle.writing.specs.Commits.{Wrote, after, commitFrom}
+use Rattle.writing.specs.Appends.{Tried, triesFrom, appendOf}
+use Rattle.reading.specs.Entering.{entryAnswer, heldOf, roomFor}
+use Rattle.performing.specs.Outcomes.{Outcome, flashOf, refused, entered}
+use Rattle.ids.specs.declared.Anchor.{Anchor}
+use Rattle.ids.specs.Ids.{counterTag, valueTag, lamport, isCredential, isValue}
+use Rattle.codec.specs.declared.OptRaw.{OptRaw}
+use Rattle.records.specs.Logs.{recordsOf}
+use Rattle.deciding.specs.declared.Decision.{Decision}
+use Rattle.deciding.specs.Decisions.{whenActive, putDecision, valueDecision}
+use Rattle.seeding.specs.Seeds.{seedsKnown, seedTable}
+use Rattle.performing.specs.Performing.{performed, decided, formatted}
+use Rattle.log.specs.Calls.{isFirst, anchoredFirst, anchored, formatOn, putOf, putValueOf, putAnchorOf, formatOf}
+use Rattle.tries.specs.Tries.{spendDecision, spendOf, setDecision, setOf, advanceDecision, advanceOf}
+use Rattle.demands.specs.Calls.{Call, put, put-value, put-anchor, format, spend, set-tries, advance-lamport, outcomeOf}
+use Rattle.demands.specs.Demand1.{leavesAll, knownIn, byState, stateAnswer, Refuses}
+use Rattle.demands.proofs.Courses.{Course, refusal, given, appends, formats, anchors, call-course}
+
+-- ---- a write answers 0, 6 or 7
+abbrev Writes : Answer → Type 0
+Writes a = leavesAll a ≡ false
+
+program-answers : (s k : ℕ) (new : List ℕ) (f : Flash) → Writes (program s k new f .answer)
+program-answers s k new f = go (program-outcome s k new f)
+  where
+    go : {o : Stepped} → Programmed s k new f o → Writes (o .answer)
+    go (program-refused h) = refl
+    go (program-stopped e h) = refl
+    go (program-whole e h) = by-test Writes (same _ new) Done WriteError (λ _. refl) (λ _. refl)
+
+erase-answers : (s : ℕ) (f : Flash) → Writes (erase s f .answer)
+erase-answers s f = go (erase-outcome s f)
+  where
+    go : {o : Stepped} → Erased s f o → Writes (o .answer)
+    go (erase-refused h) = refl
+    go (erase-stopped e h) = refl
+    go (erase-whole e h) = refl
+
+records-answers : (s seq k : ℕ) (t : List Raw) (f : Flash) → Writes (writeRecords s seq k t f .answer)
+unfolding writeRecords
+records-answers s seq k [] f = refl
+records-answers s seq k (r ∷ t) f =
+    by-test (λ (o : Stepped). Writes (o .answer)) (isDone (program s k (slotOf seq r) f .answer)) _ _ (λ _. records-answers s seq (suc k) t (program s k (slotOf seq r) f .flash)) (λ _. program-answers s k (slotOf seq r) f)
+
+done-answers : (o : Stepped) (next : Flash → Stepped) → Writes (o .answer) → ((g : Flash) → Writes (next g .answer)) → Writes (onDone o next .answer)
+done-answers o next a b = by-test (λ (x : Stepped). Writes (x .answer)) (isDone (o .answer)) (next (o .flash)) o (λ _. b (o .flash)) (λ _. a)
+
+sector-answers : (s seq : ℕ) (t : List Raw) (f : Flash) → Writes (writeSector s seq t f .answer)
+unfolding writeSector
+sector-answers s seq t f =
+    done-answers (erase s f) (λ (g : Flash). onDone (writeRecords s seq 1 t g) (λ (h : Flash). program s 0 (headerSlot seq) h)) (erase-answers s f)
+    (λ g. done-answers (writeRecords s seq 1 t g) (λ (h : Flash). program s 0 (headerSlot seq) h) (records-answers s seq 1 t g) (λ h. program-answers s 0 (headerSlot seq) h))
+
+commit-answers : (m n a s : ℕ) (t : List Raw) (last : Answer) (state : State) (next : ℕ) (f : Flash) → Writes last → Writes (commitFrom m n a s t last state next f .answer)
+unfolding commitFrom
+commit-answers zero n a s t last state next f h = h
+commit-answers (suc m) n a s t last state next f h =
+    by-test (λ (w : Wrote). Writes (w .answer)) (eqb s a) _ _ (λ _. commit-answers m n a (after n s) t last state next f h)
+    (λ _. by-test (λ (w : Wrote). Writes (w .answer)) (eqb next 4294967295) _ _ (λ _. refl)
+    (λ _. by-test (λ (w : Wrote). Writes (w .answer)) (isDone (writeSector s next t f .answer)) _ _ (λ _. refl)
+    (λ _. commit-answers m n a (after n s) t (writeSector s next t f .answer) state (next + 1) (writeSector s next t f .flash) (sector-answers s next t f))))
+
+tries-answers : (m s head : ℕ) (bytes : List ℕ) (last : Answer) (f : Flash) → Writes last → Writes (triesFrom m s head bytes last f .answer)
+unfolding triesFrom
+tries-answers zero s head bytes last f h = h
+tries-answers (suc m) s head bytes last f h =
+    by-test (λ (o : Tried). Writes (o .answer)) (eqb head 256) _ _ (λ _. h)
+    (λ _. by-test (λ (o : Tried). Writes (o .answer)) (isDone (program s head bytes f .answer)) _ _ (λ _. refl)
+    (λ _. tries-answers m s (head + 1) bytes (program s head bytes f .answer) (program s head bytes f .flash) (program-answers s head bytes f)))
+
+append-answers : (n s seq head next : ℕ) (r : Raw) (t : List Raw) (f : Flash) → Writes (appendOf n s seq head next r t f .answer)
+unfolding appendOf
+append-answers n s seq head next r t f =
+    by-test (λ (w : Wrote). Writes (w .answer)) (triesFrom 3 s head (slotOf seq r) WriteError f .full) _ _
+    (λ _. commit-answers n n s (after n s) t WriteError (Active s seq (triesFrom 3 s head (slotOf seq r) WriteError f .head)) next (triesFrom 3 s head (slotOf seq r) WriteError f .flash) refl)
+    (λ _. tries-answers 3 s head (slotOf seq r) WriteError f refl)
+
+-- ---- the demand
+module _ (image : List ℕ) (log : Log) (plan : Plan) where
+  abbrev n : ℕ
+  n = sectorsIn (length image)
+
+  abbrev f : Flash
+  f = flashOf image plan
+
+  course-unchanged : (o : Outcome) → Course image log plan o → leavesAll (o .answer) ≡ true → o ≡ refused (o .answer) log f
+  course-unchanged o (refusal a k) e = refl
+  course-unchanged o (given value) e = absurd (false≢true e)
+  course-unchanged o (appends fits s seq head k r value room) e = absurd (false≢true (sym (append-answers n s seq head (log .«next_seq») r _ f) ∙ e))
+  course-unchanged o (formats fits some k new few) e = absurd (false≢true (sym (commit-answers n n n 0 new WriteError Unformatted (log .«next_seq») f refl) ∙ e))
+  course-unchanged o (anchors fits some k d s seq within z r value) e = absurd (false≢true (sym (append-answers n s seq 1 _ r _ _) ∙ e))
+
+  entered-refuses : (known : Bool) (call : ℕ → Log → Flash → Outcome) (a : Answer) → entryAnswer n log known ≡ a → isDone a ≡ false → entered image log plan known call ≡ refused a log f
+  unfolding entered
+  entered-refuses known call a e d = ap (λ (x : Answer). pick (isDone x) (call n log f) (refused x log f)) e ∙ ap (λ (b : Bool). pick b (call n log f) (refused a log f)) d
+
+  module _ (known : Bool) where
+    no-image : n ≡ 0 → entryAnswer n log known ≡ BadImage
+    unfolding entryAnswer
+    no-image e = rw (eq-eqb n 0 e)
+
+    bad-log : (n ≡ 0 → ⊥) → logFits n log ≡ false → entryAnswer n log known ≡ BadLog
+    unfolding entryAnswer
+    bad-log e k = rw (ne-eqb n 0 e, k)
+
+    bad-id : (n ≡ 0 → ⊥) → logFits n log ≡ true → known ≡ false → entryAnswer n log known ≡ BadId
+    unfolding entryAnswer
+    bad-id e k z = rw (ne-eqb n 0 e, k, z)
+
+  call-refuses : (c : Call) (a : Answer) → entryAnswer n log (knownIn c) ≡ a → isDone a ≡ false → outcomeOf c image log plan ≡ refused a log f
+  unfolding putOf putValueOf putAnchorOf formatOf spendOf setOf advanceOf
+  call-refuses (put credential new) = entered-refuses (knownIn (put credential new)) _
+  call-refuses (put-value id new) = entered-refuses (knownIn (put-value id new)) _
+  call-refuses (put-anchor new) = entered-refuses (knownIn (put-anchor new)) _
+  call-refuses (format seeds count) = entered-refuses (knownIn (format seeds count)) _
+  call-refuses (spend credential current) = entered-refuses (knownIn (spend credential current)) _
+  call-refuses (set-tries credential tries) = entered-refuses (knownIn (set-tries credential tries)) _
+  call-refuses (advance-lamport latest) = entered-refuses (knownIn (advance-lamport latest)) _
+
+  -- ---- a call that was let in
+  module _ (some : n ≡ 0 → ⊥) (fits : logFits n log ≡ true) where
+    pub entered-on : (known : Bool) (call : ℕ → Log → Flash → Outcome) → known ≡ true → entered image log plan known call ≡ call n log f
+    unfolding entered entryAnswer
+    entered-on known call k = rw (ne-eqb n 0 some, fits, k)
+
+    inactive : (d : Decision) (z : State) → isDone (byState NotFormatted ReadError Done z) ≡ false → performed (whenActive z d) n log f ≡ refused (byState NotFormatted ReadError Done z) log f
+    unfolding performed
+    inactive d Unformatted e = refl
+    inactive d Failed e = refl
+    inactive d (Active sector seq head) e = absurd (false≢true (sym e))
+
+    keyed-not-ready : (known : Bool) (tag id : ℕ) (d : OptRaw → Bool → Decision) → known ≡ true → isDone (byState NotFormatted ReadError Done (log .state)) ≡ false
+        → entered image log plan known (decided tag id d) ≡ refused (byState NotFormatted ReadError Done (log .state)) log f
+    keyed-not-ready known tag id d k e = entered-on known (decided tag id d) k ∙ inactive (d (heldOf tag id (recordsOf log)) (roomFor tag id (recordsOf log))) (log .state) e
+
+    format-not-ready : (t : List Raw) (z : State) → isDone (byState Done WriteError WriteError z) ≡ false → formatOn z t n log f ≡ refused (byState Done WriteError WriteError z) log f
+    format-not-ready t Unformatted e = absurd (false≢true (sym e))
+    format-not-ready t Failed e = refl
+    format-not-ready t (Active sector seq head) e = refl
+
+    anchor-not-ready : (new : Anchor) (z : State) → isDone (byState (pick (isFirst new) Done NotFormatted) ReadError Done z) ≡ false
+        → anchored z new n log f ≡ refused (byState (pick (isFirst new) Done NotFormatted) ReadError Done z) log f
+    anchor-not-ready new Unformatted e = go (isFirst new) e
+      where
+        go : (b : Bool) → isDone (pick b Done NotFormatted) ≡ false → pick b (anchoredFirst new n (formatted [] n log f)) (refused NotFormatted log f) ≡ refused (pick b Done NotFormatted) log f
+        go true e = absurd (false≢true (sym e))
+        go false e = refl
+    anchor-not-ready new Failed e = refl
+    anchor-not-ready new (Active sector seq head) e = absurd (false≢true (sym e))
+
+    call-not-ready : (c : Call) → knownIn c ≡ true → isDone (stateAnswer c (log .state)) ≡ false → outcomeOf c image log plan ≡ refused (stateAnswer c (log .state)) log f
+    unfolding putOf putValueOf putAnchorOf formatOf spendOf setOf advanceOf
+    call-not-ready (put credential new) k e = keyed-not-ready (isCredential credential) counterTag credential (λ (held : OptRaw) (room : Bool). putDecision held room credential new) k e
+    call-not-ready (put-value id new) k e = keyed-not-ready (isValue id) valueTag id (λ (held : OptRaw) (room : Bool). valueDecision held room id new) k e
+    call-not-ready (put-anchor new) k e = entered-on true (λ (n : ℕ) (l : Log) (f : Flash). anchored (l .state) new n l f) k ∙ anchor-not-ready new (log .state) e
+    call-not-ready (format seeds count) k e =
+        entered-on (seedsKnown seeds count) (λ (n : ℕ) (l : Log) (f : Flash). formatOn (l .state) (seedTable seeds count) n l f) k ∙ format-not-ready (seedTable seeds count) (log .state) e
+    call-not-ready (spend credential current) k e = keyed-not-ready (isCredential credential) counterTag credential (λ (held : OptRaw) (room : Bool). spendDecision held room credential current) k e
+    call-not-ready (set-tries credential tries) k e = keyed-not-ready (isCredential credential) counterTag credential (λ (held : OptRaw) (room : Bool). setDecision held room credential tries) k e
+    call-not-ready (advance-lamport latest) k e = keyed-not-ready true valueTag lamport (λ (held : OptRaw) (room : Bool). advanceDecision held room latest) k e
+
+  pub demand-1 : (c : Call) → Refuses c image log plan
+  demand-1 c = record {
+    no-image = λ e. call-refuses c BadImage (no-image (knownIn c) e) refl;
+    bad-log = λ e k. call-refuses c BadLog (bad-log (knownIn c) e k) refl;
+    bad-id = λ e k z. call-refuses c BadId (bad-id (knownIn c) e k z) refl;
+    not-ready = λ e k. call-not-ready e k c;
+    unchanged = course-unchanged (outcomeOf c image log plan) (call-course image log plan c);
+  }

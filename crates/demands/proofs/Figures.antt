@@ -1,0 +1,108 @@
+-- The figures of calls on a healthy flash, in any session.
+use mathlib.Core.Path.{_≡_, refl, sym, ap, subst, _∙_}
+use mathlib.Core.Bool.{Bool, true, false≢true}
+use mathlib.Core.List.{List}
+use Prim.Native.Nat.{ℕ}
+use native.Mathlib.Omega.{arith}
+use lib.ListN.{length}
+use Rattle.ids.specs.Ids.{counterTag, valueTag, anchorTag, lamport, isCredential, isValue}
+use Rattle.codec.specs.declared.OptRaw.{OptRaw}
+use Rattle.flash.specs.Image.{sectorsIn}
+use Rattle.flash.specs.Run.{Flash}
+use Rattle.records.specs.declared.State.{State}
+use Rattle.records.specs.declared.State.the-variants.{Active}
+use Rattle.records.specs.declared.Log.{Log}
+use Rattle.records.specs.Logs.{recordsOf}
+use Rattle.deciding.specs.declared.Decision.{Decision}
+use Rattle.deciding.specs.Decisions.{whenActive, putDecision, valueDecision, anchorDecision}
+use Rattle.reading.specs.Entering.{heldOf, roomFor}
+use Rattle.seeding.specs.declared.Seed.{Seed}
+use Rattle.seeding.specs.Seeds.{seedsKnown, seedTable}
+use Rattle.performing.specs.Outcomes.{Outcome, flashOf, entered}
+use Rattle.performing.specs.Performing.{performed, decided}
+use Rattle.log.specs.Calls.{putOf, putValueOf, anchored, putAnchorOf, formatOn, formatOf}
+use Rattle.tries.specs.Tries.{spendDecision, spendOf, setDecision, setOf, advanceDecision, advanceOf}
+use Rattle.demands.specs.Healthy.{Healthy, healthy}
+use Rattle.demands.specs.Typed.{TypedSeeds}
+use Rattle.demands.specs.Calls.{Call, put, put-value, put-anchor, format, spend, set-tries, advance-lamport, outcomeOf, Typed}
+use Rattle.demands.specs.Figures.{Reports, decisionOf, WritesWell, FormatsWell}
+use Rattle.demands.specs.Demand1.{knownIn}
+use Rattle.demands.proofs.Tables.{Writable}
+use Rattle.demands.proofs.Invariant.{Agrees, Inv, inv-fits}
+use Rattle.demands.proofs.Performing.{writes-writable}
+use Rattle.demands.proofs.Succeeding.{Succeeds, performed-appends, performed-rotates, formatted-succeeds}
+use Rattle.demands.proofs.Deciding.{put-sound, value-sound, anchor-sound}
+use Rattle.demands.proofs.Trying.{spend-sound, set-sound, advance-sound}
+use Rattle.demands.proofs.Calls.{seeds-proper}
+use Rattle.demands.proofs.Demand1.{entered-on}
+
+module _ (image : List ℕ) (log : Log) (i : Inv image log) where
+  abbrev n : ℕ
+  n = sectorsIn (length image)
+
+  abbrev f : Flash
+  f = flashOf image healthy
+
+  well : Healthy f
+  well = record { endless = refl; erasing = refl; willing = refl }
+
+  reports : (value : ℕ) (l : Log) (p e : ℕ) (o : Outcome) → Succeeds f value l p e o → Reports value l p e o
+  reports value l p e o s = record {
+    answer = s .answer;
+    value-is = s .value-is;
+    log-is = s .log-is;
+    programmed-is = s .used .programmed ∙ omega arith;
+    erased-is = s .used .erased ∙ omega arith;
+  }
+
+  -- a call that is let in on an Active log performs its decision
+  active-some : (s seq head : ℕ) → log .state ≡ Active s seq head → n ≡ 0 → ⊥
+  active-some s seq head e z =
+      let there = subst (λ (y : State). Agrees n image y (log .«next_seq») (recordsOf log)) e (i .agrees) in
+      omega (arith, there .found .placed .within)
+
+  keyed-is : (known : Bool) (tag id : ℕ) (d : OptRaw → Bool → Decision) → known ≡ true → (s seq head : ℕ) → log .state ≡ Active s seq head
+      → entered image log healthy known (decided tag id d) ≡ performed (d (heldOf tag id (recordsOf log)) (roomFor tag id (recordsOf log))) n log f
+  keyed-is known tag id d k s seq head e =
+      entered-on image log healthy (active-some s seq head e) (inv-fits image log i) known (decided tag id d) k
+      ∙ ap (λ (z : State). performed (whenActive z (d (heldOf tag id (recordsOf log)) (roomFor tag id (recordsOf log)))) n log f) e
+
+  call-is : (c : Call) → knownIn c ≡ true → (s seq head : ℕ) → log .state ≡ Active s seq head → decisionOf c (recordsOf log) .write ≡ true → outcomeOf c image log healthy ≡ performed (decisionOf c (recordsOf log)) n log f
+  unfolding putOf putValueOf putAnchorOf spendOf setOf advanceOf
+  call-is (put credential new) k s seq head e w = keyed-is (isCredential credential) counterTag credential (λ (held : OptRaw) (room : Bool). putDecision held room credential new) k s seq head e
+  call-is (put-value id new) k s seq head e w = keyed-is (isValue id) valueTag id (λ (held : OptRaw) (room : Bool). valueDecision held room id new) k s seq head e
+  call-is (put-anchor new) k s seq head e w =
+      entered-on image log healthy (active-some s seq head e) (inv-fits image log i) true (λ (n : ℕ) (l : Log) (f : Flash). anchored (l .state) new n l f) k
+      ∙ ap (λ (z : State). anchored z new n log f) e
+      ∙ ap (λ (z : State). performed (whenActive z (anchorDecision (heldOf anchorTag 0 (recordsOf log)) (roomFor anchorTag 0 (recordsOf log)) new)) n log f) e
+  call-is (format seeds count) k s seq head e w = absurd (false≢true w)
+  call-is (spend credential current) k s seq head e w = keyed-is (isCredential credential) counterTag credential (λ (held : OptRaw) (room : Bool). spendDecision held room credential current) k s seq head e
+  call-is (set-tries credential tries) k s seq head e w = keyed-is (isCredential credential) counterTag credential (λ (held : OptRaw) (room : Bool). setDecision held room credential tries) k s seq head e
+  call-is (advance-lamport latest) k s seq head e w = keyed-is true valueTag lamport (λ (held : OptRaw) (room : Bool). advanceDecision held room latest) k s seq head e
+
+  -- what it writes may be written
+  call-writable : (c : Call) → Typed c → decisionOf c (recordsOf log) .write ≡ true → Writable (decisionOf c (recordsOf log) .rec) (recordsOf log)
+  call-writable (put credential new) typed e = writes-writable _ _ (recordsOf log) (put-sound credential new (typed .0) (typed .1) (recordsOf log) (i .agrees .proper .whole) e)
+  call-writable (put-value id new) typed e = writes-writable _ _ (recordsOf log) (value-sound id new (typed .0) (typed .1) (recordsOf log) (i .agrees .proper .whole) e)
+  call-writable (put-anchor new) typed e = writes-writable _ _ (recordsOf log) (anchor-sound new typed (recordsOf log) (i .agrees .proper .whole) e)
+  call-writable (format seeds count) typed e = absurd (false≢true e)
+  call-writable (spend credential current) typed e = writes-writable _ _ (recordsOf log) (spend-sound credential current (typed .0) (typed .1) (recordsOf log) (i .agrees .proper .whole) e)
+  call-writable (set-tries credential tries) typed e = writes-writable _ _ (recordsOf log) (set-sound credential tries (typed .0) (typed .1) (recordsOf log) (i .agrees .proper .whole) e)
+  call-writable (advance-lamport latest) typed e = writes-writable _ _ (recordsOf log) (advance-sound latest typed (recordsOf log) (i .agrees .proper .whole) e)
+
+  pub writes-well : (c : Call) → Typed c → WritesWell c image log
+  writes-well c typed = record {
+    append = λ k s seq head e w room.
+        subst (Reports _ _ 16 0) (sym (call-is c k s seq head e w)) (reports _ _ 16 0 _ (performed-appends f log refl i well (decisionOf c (recordsOf log)) w (call-writable c typed w) s seq head e room));
+    commit = λ k s seq head e w full others most.
+        subst (Reports _ _ _ 4096) (sym (call-is c k s seq head e w)) (reports _ _ _ 4096 _ (performed-rotates f log refl i well (decisionOf c (recordsOf log)) w (call-writable c typed w) s seq head e full others most));
+  }
+
+  pub formats-well : (seeds : List Seed) (count : ℕ) → TypedSeeds seeds → FormatsWell seeds count image log
+  unfolding formatOf
+  formats-well seeds count typed k e most =
+      let there = subst (λ (y : State). Agrees n image y (log .«next_seq») (recordsOf log)) e (i .agrees) in
+      let some : n ≡ 0 → ⊥ = λ z. omega (arith, there .found .1) in
+      let on = entered-on image log healthy some (inv-fits image log i) (seedsKnown seeds count) (λ (n : ℕ) (l : Log) (f : Flash). formatOn (l .state) (seedTable seeds count) n l f) k in
+      subst (Reports 0 _ _ 4096) (sym (on ∙ ap (λ (z : State). formatOn z (seedTable seeds count) n log f) e))
+      (reports 0 _ _ 4096 _ (formatted-succeeds f log refl i well e (seedTable seeds count) (seeds-proper image log i seeds count typed k) most))

@@ -1,0 +1,10 @@
+-- Demand 2: a contract determines the answer struct, and each image byte.
+use mathlib.Core.Path.{_≡_}
+use mathlib.Core.List.{List}
+use Prim.Native.Nat.{ℕ}
+use Rattle.performing.specs.declared.Done.{Done}
+use Rattle.performing.specs.Outcomes.{Outcome, Meets}
+
+-- two results that meet one outcome are equal
+abbrev pub Unique : Outcome → Type 0
+Unique o = (r q : Done) (image other : List ℕ) → Meets o r image → Meets o q other → (r ≡ q) × (image ≡ other)

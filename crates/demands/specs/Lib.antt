@@ -1,0 +1,14 @@
+-- What the calls promise together: the words first, then the demands, one file each.
+pub mod Chance
+pub mod Shown
+pub mod Healthy
+pub mod Typed
+pub mod Calls
+pub mod Sessions
+pub mod Demand1
+pub mod Demand2
+pub mod Demand3
+pub mod Spends
+pub mod Wear
+pub mod Figures
+pub mod Leaves

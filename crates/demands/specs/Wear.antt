@@ -1,0 +1,16 @@
+-- Wear: "Each call also reports bytes programmed and bytes erased; limited units fall by exactly their sum." "Any call: at most 8,000 and 65,536."
+use mathlib.Core.Path.{_≡_}
+use mathlib.Core.Bool.{true, false}
+use Prim.Native.Nat.{_+_, _≤_}
+use Rattle.flash.specs.declared.Plan.{Plan}
+use Rattle.performing.specs.Outcomes.{Outcome}
+
+-- what a call that was made on this plan comes to
+pub record Wears (plan : Plan) (o : Outcome) : Type 0 where
+  pub limited : o .flash .plan .limited ≡ plan .limited
+  pub units : plan .limited ≡ true → o .flash .plan .units + (o .flash .programmed + o .flash .erased) ≡ plan .units
+  pub programmed : o .flash .programmed ≤ 8000
+  pub erased : o .flash .erased ≤ 65536
+  -- so a plan with these units, or without a limit, lasts through any call
+  pub lasts : plan .limited ≡ false → o .flash .cut ≡ false
+  pub spare : 73536 ≤ plan .units → o .flash .cut ≡ false

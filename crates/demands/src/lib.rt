@@ -1,0 +1,1 @@
+// Theorems only: what the calls promise together.
