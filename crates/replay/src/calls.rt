@@ -7,13 +7,13 @@ use basics::Answer;
 use flash::Plan;
 use ids::Anchor;
 use ids::CounterState;
-use seeding::Seed;
 use performing::Done;
 use reading::Anchored;
 use reading::Counter;
 use reading::Number;
 use reading::Told;
 use records::Log;
+use seeding::Seed;
 use tries::Left;
 ghost use mathlib.Core.List.{_∷_, []};
 ghost use Prim.Native.Nat.{_≤_};
@@ -242,7 +242,7 @@ fn put_anchor(line: &[u8], e: usize, image: &mut [u8], log: Log, plan: Plan) -> 
         head_seq: x[1],
         head_slot: x[2] as u16,
     };
-    quiet(log::put_anchor(image, log, plan, new))
+    quiet(anchored::put_anchor(image, log, plan, new))
 }
 
 fn no_seed() -> Seed {
@@ -310,7 +310,7 @@ fn format(line: &[u8], e: usize, image: &mut [u8], log: Log, plan: Plan) -> Work
     }
     let x = n.x;
     let seeds = s.seeds;
-    quiet(log::format(image, log, plan, seeds, x[0] as usize))
+    quiet(starting::format(image, log, plan, seeds, x[0] as usize))
 }
 
 fn spend(line: &[u8], e: usize, image: &mut [u8], log: Log, plan: Plan) -> Work {

@@ -207,7 +207,7 @@ fn one_spend() {
     let mut image = [0xFFu8; 8192];
     let o = scan::open(&image);
     let blank = o.log;
-    let d = log::format(&mut image, blank, calm(), user_pin(), 1);
+    let d = starting::format(&mut image, blank, calm(), user_pin(), 1);
     let log = call_line(b"format: ", &image, d);
     let d = spending::spend(&mut image, log, calm(), 1, 9);
     let _ = call_line(b"spend: ", &image, d);
@@ -236,7 +236,7 @@ fn turned_away() {
 // One that gets each of 6, 7, 8 and 9, and what it leaves.
 fn refused() {
     let mut image = [0xFFu8; 8192];
-    let d = log::format(&mut image, crowded(33), calm(), user_pin(), 1);
+    let d = starting::format(&mut image, crowded(33), calm(), user_pin(), 1);
     let _ = call_line(b"format, active: ", &image, d);
     let erase_refused = Plan {
         limited: false,
@@ -245,7 +245,7 @@ fn refused() {
         refuse_programs: 0,
     };
     let blank = records::empty(State::Unformatted, 1);
-    let d = log::format(&mut image, blank, erase_refused, user_pin(), 1);
+    let d = starting::format(&mut image, blank, erase_refused, user_pin(), 1);
     let _ = call_line(b"format, erases refused: ", &image, d);
     let d = log::put_value(&mut image, crowded(33), calm(), 5, 4);
     let _ = call_line(b"a 33rd key: ", &image, d);

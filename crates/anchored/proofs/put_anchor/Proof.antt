@@ -1,4 +1,4 @@
--- `log::put_anchor` meets its contract.
+-- `anchored::put_anchor` meets its contract.
 use mathlib.Core.Path.{_≡_, sym, ap, subst, _∙_}
 use mathlib.Core.Bool.{Bool, true, false}
 use mathlib.Core.List.{List, []}
@@ -18,12 +18,12 @@ use Rattle.reading.proofs.Entering.{let-in-by, entry-in}
 use Rattle.performing.specs.Outcomes.{Outcome, Meets}
 use Rattle.performing.specs.Performing.{formatted}
 use Rattle.performing.proofs.Calling.{in-room, call-ready, call-meets}
 use Rattle.log.specs.Calls.{anchoredFirst, putAnchorOf}
 use Rattle.log.specs.Steps.{opensLog}
 use Rattle.log.proofs.Anchoring.{opened, as-first, as-call}
 use borrow.Author.Needs.{needs}
-use Rattle.log.proofs.put_anchor.Statement.{statement}
-use Rattle.log.proofs.put_anchor.Tie as tie
+use Rattle.anchored.proofs.put_anchor.Statement.{statement}
+use Rattle.anchored.proofs.put_anchor.Tie as tie
 
 abbrev start-of : tie.After-enter → tie.Start
 start-of e = e .before .before .before

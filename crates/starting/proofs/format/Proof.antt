@@ -1,4 +1,4 @@
--- `log::format` meets its contract.
+-- `starting::format` meets its contract.
 use mathlib.Core.Path.{_≡_, refl, sym, ap, ap₂, subst, _∙_}
 use mathlib.Core.Bool.{Bool, true, false}
 use mathlib.Core.List.{List}
@@ -25,11 +25,11 @@ use Rattle.performing.specs.Outcomes.{Outcome, Meets, flashOf}
 use Rattle.performing.specs.Performing.{formatted}
 use Rattle.performing.specs.Steps.{answeredOf, Filled}
 use Rattle.performing.proofs.Calling.{entered-refused, entered-in, in-room}
 use Rattle.log.specs.Calls.{formatOn, formatOf}
 use Rattle.log.proofs.Formatting.{known-few, table-most, filled}
 use borrow.Author.Needs.{needs}
-use Rattle.log.proofs.format.Statement.{statement}
-use Rattle.log.proofs.format.Tie as tie
+use Rattle.starting.proofs.format.Statement.{statement}
+use Rattle.starting.proofs.format.Tie as tie
 
 abbrev start-of : tie.After-enter → tie.Start
 start-of e = e .before .before .before .before

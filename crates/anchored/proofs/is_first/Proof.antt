@@ -1,14 +1,14 @@
--- `log::is_first` meets its contract.
+-- `anchored::is_first` meets its contract.
 use mathlib.Core.Path.{_≡_, sym, ap, _∙_}
 use mathlib.Core.Bool.{Bool, _&&_, and-false}
 use borrow.Author.Tests.{eq-eqb, ne-eqb, not-true, not-false}
 use Rattle.basics.specs.Answers.{isDone}
 use Rattle.records.specs.declared.State.{State}
 use Rattle.log.specs.Calls.{isFirst}
 use Rattle.log.specs.Steps.{opensLog}
 use borrow.Author.Needs.{needs}
-use Rattle.log.proofs.is_first.Statement.{statement}
-use Rattle.log.proofs.is_first.Tie as tie
+use Rattle.anchored.proofs.is_first.Statement.{statement}
+use Rattle.anchored.proofs.is_first.Tie as tie
 
 -- on an Unformatted log, by whether the call was let in
 by : (d : tie.After-is-done) (b : Bool) → d .is-done .result ≡ b → let a = d .before .before .before .args in (b && isFirst (a .new)) ≡ opensLog (a .answer) (a .state) (a .new)

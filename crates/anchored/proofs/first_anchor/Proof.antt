@@ -1,4 +1,4 @@
--- `log::first_anchor` meets its contract.
+-- `anchored::first_anchor` meets its contract.
 use mathlib.Core.Path.{_≡_, sym, ap, subst, _∙_}
 use mathlib.Core.Bool.{Bool, true, false}
 use mathlib.Core.List.{List, []}
@@ -16,11 +16,11 @@ use Rattle.deciding.specs.Decisions.{whenActive, anchorDecision}
 use Rattle.performing.specs.declared.Done.{Done}
 use Rattle.performing.specs.Outcomes.{Outcome, Meets}
 use Rattle.performing.specs.Performing.{performed, formatted}
 use Rattle.log.specs.Calls.{anchoredFirst}
 use Rattle.log.proofs.Anchoring.{format-cheap, format-fits, format-empty, first-stopped, first-decided}
 use borrow.Author.Needs.{needs}
-use Rattle.log.proofs.first_anchor.Statement.{statement}
-use Rattle.log.proofs.first_anchor.Tie as tie
+use Rattle.anchored.proofs.first_anchor.Statement.{statement}
+use Rattle.anchored.proofs.first_anchor.Tie as tie
 
 -- the empty format, and what it showed
 module _ (w : tie.After-format-with) where
