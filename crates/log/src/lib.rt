@@ -32,23 +32,23 @@ pub fn put(image: &mut [u8], log: Log, plan: Plan, credential: u8, new: CounterS
     let e = reading::enter(
         log,
         n,
-        ids::is_credential(credential),
+        meanings::is_credential(credential),
         ids::COUNTER_TAG,
         credential,
     );
     let held = e.held;
-    let d = deciding::put_decision(held, e.room, credential, new);
-    performing::perform(image, log, performing::unused(plan), n, e, d)
+    let d = puts::put_decision(held, e.room, credential, new);
+    acting::perform(image, log, performing::unused(plan), n, e, d)
 }
 
 pub fn put_value(image: &mut [u8], log: Log, plan: Plan, id: u8, new: u64) -> Done
     ensures { λ r. ⌜ Meets (putValueOf (now (image .entry)) log plan id new) r (now (image .exit)) ⌝ }
 {
     let n = flash::sectors(image.len());
-    let e = reading::enter(log, n, ids::is_value(id), ids::VALUE_TAG, id);
+    let e = reading::enter(log, n, meanings::is_value(id), ids::VALUE_TAG, id);
     let held = e.held;
-    let d = deciding::value_decision(held, e.room, id, new);
-    performing::perform(image, log, performing::unused(plan), n, e, d)
+    let d = puts::value_decision(held, e.room, id, new);
+    acting::perform(image, log, performing::unused(plan), n, e, d)
 }
 
 // Whether a call that was let in brings the first anchor of a log that was never formatted.
@@ -79,7 +79,7 @@ fn first_anchor(image: &mut [u8], log: Log, used: Used, sectors: usize, new: Anc
     requires { ⌜ Room (length (now image)) sectors log used × (log .state ≡ Unformatted) × (0 < sectors) × (used .programmed ≤ 0) × (used .erased ≤ 0) × (isFirst new ≡ true) ⌝ }
     ensures { λ r. ⌜ Shows (λ (cut : Bool). anchoredFirst new sectors (formatted [] sectors log (flashWith (now (image .entry)) used cut))) r (now (image .exit)) ⌝ }
 {
-    let f = performing::format_with(image, log, used, sectors, records::empty_table(), 0);
+    let f = formatting::format_with(image, log, used, sectors, records::empty_table(), 0);
     let answer = f.answer;
     if !basics::is_done(answer) {
         return f;
@@ -102,8 +102,8 @@ fn first_anchor(image: &mut [u8], log: Log, used: Used, sectors: usize, new: Anc
         erased: f.erased,
     };
     let empty = f.log;
-    let d = deciding::anchor_decision(held, true, new);
-    performing::perform(image, empty, left, sectors, e, d)
+    let d = anchoring::anchor_decision(held, true, new);
+    acting::perform(image, empty, left, sectors, e, d)
 }
 
 pub fn put_anchor(image: &mut [u8], log: Log, plan: Plan, new: Anchor) -> Done
@@ -118,8 +118,8 @@ pub fn put_anchor(image: &mut [u8], log: Log, plan: Plan, new: Anchor) -> Done
         return first_anchor(image, log, used, n, new);
     }
     let held = e.held;
-    let d = deciding::anchor_decision(held, e.room, new);
-    performing::perform(image, log, used, n, e, d)
+    let d = anchoring::anchor_decision(held, e.room, new);
+    acting::perform(image, log, used, n, e, d)
 }
 
 pub fn format(image: &mut [u8], log: Log, plan: Plan, seeds: [Seed; SEEDS], count: usize) -> Done
@@ -143,7 +143,7 @@ pub fn format(image: &mut [u8], log: Log, plan: Plan, seeds: [Seed; SEEDS], coun
         State::Unformatted => {
             let t = seeding::seed_table(seeds, count);
             let table = t.table;
-            performing::format_with(image, log, used, n, table, t.count)
+            formatting::format_with(image, log, used, n, table, t.count)
         }
         State::Failed => performing::answered(Answer::WriteError, 0, log, used),
         State::Active {

@@ -93,7 +93,7 @@ pub fn get(log: Log, credential: u8) -> Counter
     let e = enter(
         log,
         MOST,
-        ids::is_credential(credential),
+        meanings::is_credential(credential),
         ids::COUNTER_TAG,
         credential,
     );
@@ -115,7 +115,7 @@ pub fn get(log: Log, credential: u8) -> Counter
                 return Counter::Nothing;
             }
             let raw = held.raw;
-            Counter::Held(bodies::counter_of(raw))
+            Counter::Held(counters::counter_of(raw))
         }
     }
 }
@@ -123,7 +123,7 @@ pub fn get(log: Log, credential: u8) -> Counter
 pub fn value(log: Log, id: u8) -> Number
     ensures { λ r. ⌜ r ≡ valueOf log id ⌝ }
 {
-    let e = enter(log, MOST, ids::is_value(id), ids::VALUE_TAG, id);
+    let e = enter(log, MOST, meanings::is_value(id), ids::VALUE_TAG, id);
     let answer = e.answer;
     if !basics::is_done(answer) {
         return Number::Refused(answer);
@@ -142,7 +142,7 @@ pub fn value(log: Log, id: u8) -> Number
                 return Number::Nothing;
             }
             let raw = held.raw;
-            Number::Held(bodies::value_of(raw))
+            Number::Held(values::value_of(raw))
         }
     }
 }
@@ -170,7 +170,7 @@ pub fn anchor(log: Log) -> Anchored
                 return Anchored::Nothing;
             }
             let raw = held.raw;
-            Anchored::Held(bodies::anchor_of(raw))
+            Anchored::Held(anchors::anchor_of(raw))
         }
     }
 }

@@ -66,8 +66,8 @@ pub fn find(tags: &[u8], ids: &[u8], count: usize, tag: u8, id: u8) -> usize
 pub fn replaces(new: Raw, held: Raw) -> bool
     ensures { λ r. ⌜ r ≡ not (falls new held) ⌝ }
 {
-    if ids::is_monotonic(new.tag, new.id) {
-        bodies::value_of(held) <= bodies::value_of(new)
+    if meanings::is_monotonic(new.tag, new.id) {
+        values::value_of(held) <= values::value_of(new)
     } else {
         true
     }

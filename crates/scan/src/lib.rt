@@ -67,7 +67,7 @@ fn choose(image: &[u8], sectors: usize, version: u8) -> Chosen
     let mut best = Chosen::Nothing;
     let mut s: usize = 0;
     while s < sectors {
-        let h = codec::decode_header(flash::slot(image, s, 0), version);
+        let h = headers::decode_header(flash::slot(image, s, 0), version);
         best = better_of(best, s, h);
         s += 1;
     }
@@ -79,7 +79,7 @@ fn scan_sector(image: &[u8], sector: usize, seq: u32) -> RegionScan
     requires { ⌜ (sector < 16) × (sector * 4096 + 4096 ≤ length (now image)) ⌝ }
     ensures { λ r. ⌜ r ≡ regionRead sector seq (headIn (slotAt (now (image .entry)) sector)) (recordsIn seq (slotAt (now (image .entry)) sector)) ⌝ }
 {
-    let start = codec::under(seq);
+    let start = sealing::under(seq);
     let mut table = records::empty_table();
     let mut tags = [0u8; LIMIT];
     let mut ids = [0u8; LIMIT];
@@ -93,7 +93,7 @@ fn scan_sector(image: &[u8], sector: usize, seq: u32) -> RegionScan
             continue;
         }
         head = k as u32;
-        let d = Raw::decode_from(slot, start);
+        let d = slots::decode_from(slot, start);
         if !d.some {
             continue;
         }

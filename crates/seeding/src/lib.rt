@@ -33,7 +33,7 @@ pub fn seeds_known(seeds: [Seed; SEEDS], count: usize) -> bool
     let mut i: usize = 0;
     while i < count {
         let s = seeds[i];
-        if !ids::is_credential(s.credential) {
+        if !meanings::is_credential(s.credential) {
             return false;
         }
         i += 1;
@@ -76,7 +76,7 @@ pub fn seed_table(seeds: [Seed; SEEDS], count: usize) -> Seeded
     while i < count {
         let s = seeds[i];
         let c = s.state;
-        let r = bodies::counter_record(s.credential, c);
+        let r = counters::counter_record(s.credential, c);
         let at = place(table, n, r.tag, r.id);
         table[at] = r;
         n = records::new_count(n, at);

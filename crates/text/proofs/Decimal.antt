@@ -9,7 +9,7 @@ use lib.ListN.{length, take, drop, set, replicate, length-drop, length-set}
 use lib.Seq.{take-all, drop-cons, getD-set-same, drop-set-lt}
 use borrow.Author.Tests.{lt-ltb, le-ltb}
 use Rattle.basics.proofs.Choice.{by-test}
-use Rattle.text.specs.Text.{digits, decimal}
+use Rattle.text.specs.Text.{digits, decimal, valueFrom, valueOf}
 
 -- ---- the two cases
 digits-last : (n x : ℕ) (more : List ℕ) → x < 10 → digits (suc n) x more ≡ (48 + x) ∷ more
@@ -21,14 +21,6 @@ unfolding digits
 digits-more n x more h = rw (le-ltb x 10 h)
 
 -- ---- reading
--- the number that digits spell, behind what was read before them
-unfoldable pub valueFrom : ℕ → List ℕ → ℕ
-valueFrom v [] = v
-valueFrom v (d ∷ ds) = valueFrom (10 * v + (d - 48)) ds
-
-abbrev pub valueOf : List ℕ → ℕ
-valueOf text = valueFrom 0 text
-
 digits-read : (n x : ℕ) (more : List ℕ) → x < 10 ^ n → valueFrom 0 (digits n x more) ≡ valueFrom x more
 unfolding digits valueFrom
 digits-read zero x more h = let e : x ≡ 0 = omega arith in rw e

@@ -46,24 +46,24 @@ fn anchor(format_gen: u16, head_seq: u64, head_slot: u16) -> Anchor {
 }
 
 fn starred() {
-    slot_line(b"header 1: ", codec::encode_header(1));
+    slot_line(b"header 1: ", headers::encode_header(1));
     io::write_all(1, b"crc of 123456789: ");
     io::print_hex(1, crc::crc32(b"123456789") as u64, 8);
     io::write_all(1, b"\n");
     let pin = counter(3, 5, 4);
     slot_line(
         b"user pin 3, 5, 4: ",
-        bodies::counter_record(1, pin).encode(1),
+        slots::encode(counters::counter_record(1, pin), 1),
     );
     number_line(b"remaining: ", pin.remaining());
     slot_line(
         b"lamport 258: ",
-        bodies::value_record(ids::LAMPORT, 258).encode(1),
+        slots::encode(values::value_record(ids::LAMPORT, 258), 1),
     );
-    let fits = bodies::anchor_record(anchor(7, 281_474_976_710_655, 9));
+    let fits = anchors::anchor_record(anchor(7, 281_474_976_710_655, 9));
     let raw = fits.raw;
-    slot_line(b"anchor 7, 2^48 - 1, 9: ", raw.encode(1));
-    let above = bodies::anchor_record(anchor(7, 281_474_976_710_656, 9));
+    slot_line(b"anchor 7, 2^48 - 1, 9: ", slots::encode(raw, 1));
+    let above = anchors::anchor_record(anchor(7, 281_474_976_710_656, 9));
     let answer = above.answer;
     number_line(b"anchor 7, 2^48, 9: ", basics::number(answer));
     number_line(b"remaining of 3, 1, 2: ", counter(3, 1, 2).remaining());
@@ -149,7 +149,7 @@ fn crowded(head: u32) -> Log {
         };
     }
     let c = CounterState::fresh(3);
-    table[0] = bodies::counter_record(1, c);
+    table[0] = counters::counter_record(1, c);
     let state = State::Active {
         sector: 0,
         seq: 1,
@@ -181,25 +181,25 @@ fn user_pin() -> [Seed; 8] {
 fn full_table() {
     let mut image = [0xFFu8; 8192];
     let log = crowded(33);
-    let d = tries::spend(&mut image, log, calm(), 1, 0);
+    let d = spending::spend(&mut image, log, calm(), 1, 0);
     let log = call_line(b"32 keys, one of them spent: ", &image, d);
-    let d = tries::spend(&mut image, log, calm(), 2, 3);
+    let d = spending::spend(&mut image, log, calm(), 2, 3);
     let _ = call_line(b"32 keys, a new one: ", &image, d);
 }
 
 fn full_sector() {
     let mut image = [0xFFu8; 8192];
-    let d = tries::spend(&mut image, crowded(255), calm(), 1, 0);
+    let d = spending::spend(&mut image, crowded(255), calm(), 1, 0);
     let log = call_line(b"head 255: ", &image, d);
-    let d = tries::spend(&mut image, log, calm(), 1, 0);
+    let d = spending::spend(&mut image, log, calm(), 1, 0);
     let _ = call_line(b"head 256: ", &image, d);
 }
 
 fn refused_programs() {
     let mut image = [0xFFu8; 8192];
-    let d = tries::spend(&mut image, crowded(33), refusing(2), 1, 0);
+    let d = spending::spend(&mut image, crowded(33), refusing(2), 1, 0);
     let log = call_line(b"two refused programs: ", &image, d);
-    let d = tries::spend(&mut image, log, refusing(3), 1, 0);
+    let d = spending::spend(&mut image, log, refusing(3), 1, 0);
     let _ = call_line(b"three: ", &image, d);
 }
 
@@ -209,7 +209,7 @@ fn one_spend() {
     let blank = o.log;
     let d = log::format(&mut image, blank, calm(), user_pin(), 1);
     let log = call_line(b"format: ", &image, d);
-    let d = tries::spend(&mut image, log, calm(), 1, 9);
+    let d = spending::spend(&mut image, log, calm(), 1, 9);
     let _ = call_line(b"spend: ", &image, d);
     listed(&image);
 }

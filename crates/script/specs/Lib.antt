@@ -1,0 +1,4 @@
+-- What stands in a line of a replay script.
+pub mod Words
+pub mod Decimals
+pub mod Hex
