@@ -25,5 +25,6 @@ pub mod Figures
 pub mod Leaving
 pub mod Demand2
 pub mod Sparing
+pub mod Spared
 pub mod Spends
 pub mod Witness

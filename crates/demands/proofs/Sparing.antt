@@ -24,7 +24,7 @@ use Rattle.writing.specs.Commits.{Wrote, after, commitFrom, commitAfter}
 use Rattle.writing.specs.Appends.{Tried, triesFrom, appendOf}
 use Rattle.writing.proofs.Stepping.{after-within}
 use Rattle.demands.specs.Healthy.{unlimited}
-use Rattle.demands.proofs.Tracing.{records-trace, sector-trace, commit-trace, tries-trace}
+use Rattle.demands.proofs.Tracing.{records-trace, sector-trace, commit-trace, tries-trace, append-trace}
 
 -- the same flash, without a limit
 abbrev pub freed : Flash → Flash
@@ -68,13 +68,13 @@ erase-freed s f = go (erase-outcome s f) (erase-outcome s (freed f))
     go (erase-whole e h) (erase-whole d i) c = refl
 
 -- ---- a cut stays
-abbrev Uncut : Flash → Flash → Type 0
+abbrev pub Uncut : Flash → Flash → Type 0
 Uncut f g = g .cut ≡ false → f .cut ≡ false
 
 uncut-none : (f : Flash) → Uncut f f
 uncut-none f c = c
 
-uncut-on : (f g h : Flash) → Uncut f g → Uncut g h → Uncut f h
+pub uncut-on : (f g h : Flash) → Uncut f g → Uncut g h → Uncut f h
 uncut-on f g h a b c = a (b c)
 
 program-uncut : (s k : ℕ) (new : List ℕ) (f : Flash) → Uncut f (program s k new f .flash)
@@ -112,7 +112,7 @@ module _ {X : Type 0} (free : X → X) (left : X → Flash) (o p : Stepped) (sam
       go false e c = both (v c) ∙ ap (λ (b : Bool). pick b (yes-so (freedStep o)) (not-so (freedStep o))) e ∙ z c
 
 -- a choice that does not depend on the flash
-chosen : {X : Type 0} (free : X → X) (left : X → Flash) (b : Bool) (x x₁ y y₁ : X) → (left x .cut ≡ false → x₁ ≡ free x) → (left y .cut ≡ false → y₁ ≡ free y) → left (pick b x y) .cut ≡ false → pick b x₁ y₁ ≡ free (pick b x y)
+pub chosen : {X : Type 0} (free : X → X) (left : X → Flash) (b : Bool) (x x₁ y y₁ : X) → (left x .cut ≡ false → x₁ ≡ free x) → (left y .cut ≡ false → y₁ ≡ free y) → left (pick b x y) .cut ≡ false → pick b x₁ y₁ ≡ free (pick b x y)
 chosen free left true x x₁ y y₁ p q = p
 chosen free left false x x₁ y y₁ p q = q
 
@@ -153,7 +153,7 @@ sector-freed s seq t f = done-freed (erase s f) (erase s (freed f)) fill (erase-
         (λ h. program-uncut s 0 (headerSlot seq) h) (λ h. program-freed s 0 (headerSlot seq) h)
 
 -- ---- commits and appends
-commit-uncut : (n a : ℕ) (t : List Raw) (m s : ℕ) (last : Answer) (state : State) (next : ℕ) (f : Flash) → s < n → Uncut f (commitFrom m n a s t last state next f .flash)
+pub commit-uncut : (n a : ℕ) (t : List Raw) (m s : ℕ) (last : Answer) (state : State) (next : ℕ) (f : Flash) → s < n → Uncut f (commitFrom m n a s t last state next f .flash)
 commit-uncut n a t = commit-trace Uncut uncut-none uncut-on (λ s. Any) Any (λ s k new f _. program-uncut s k new f) (λ s f _. erase-uncut s f) n a t (λ s u z. tt) (λ s i u z l. tt)
 
 abbrev CommitFree : ℕ → ℕ → List Raw → ℕ → ℕ → Answer → State → ℕ → Flash → Type 0
@@ -208,6 +208,10 @@ tries-freed (suc m) s head bytes last f high = go (eqb head 256) refl (λ under.
         let under : head + 1 ≤ 256 = omega arith in
         branch freedTried (λ (w : Tried). w .flash) o (program s head bytes (freed f)) (program-freed s head bytes f) (λ (q : Stepped). done (q .flash)) (λ (q : Stepped). triesFrom m s (head + 1) bytes (q .answer) (q .flash))
         (λ c. c) (tries-uncut m s (head + 1) bytes (o .answer) (o .flash) under) (λ _. refl) (ih under)
+
+pub append-uncut : (n s seq head next : ℕ) (r : Raw) (t : List Raw) (f : Flash) → s < n → head ≤ 256 → Uncut f (appendOf n s seq head next r t f .flash)
+append-uncut n s seq head next r t f within high =
+    append-trace Uncut uncut-none uncut-on (λ s. Any) Any (λ s k new f _. program-uncut s k new f) (λ s f _. erase-uncut s f) n s seq head next r t f within high (λ i l u z. tt) (λ x u z. tt) (λ x i u z l. tt)
 
 pub append-freed : (n s seq head next : ℕ) (r : Raw) (t : List Raw) (f : Flash) → s < n → head ≤ 256 → appendOf n s seq head next r t f .flash .cut ≡ false
     → appendOf n s seq head next r t (freed f) ≡ freedWrote (appendOf n s seq head next r t f)

@@ -11,15 +11,16 @@ use lib.Pow.{areBytes}
 use borrow.Author.Tests.{eq-eqb}
 use Rattle.basics.specs.Lists.{same, allAre}
 use Rattle.basics.specs.Little.{leBytes, leNumber}
-use Rattle.ids.specs.Ids.{placeFrom}
+use Rattle.ids.specs.Ids.{placeFrom, isMonotonic}
 use Rattle.ids.specs.Counters.{remainingOf, failedOf}
 use Rattle.crc.specs.Register.{turn, turns, eat, feed, finished, crc32Of}
-use Rattle.codec.specs.Slots.{headerSlot, headerOf, crcUnder, slotOf}
+use Rattle.codec.specs.Slots.{headerSlot, headerOf, crcUnder, slotOf, decodedWith, decoded}
 use Rattle.bodies.specs.Bodies.{counterRecord}
 use Rattle.flash.specs.Image.{sectorsIn, slotAt, sectorAt, withSlot, withSector}
 use Rattle.flash.specs.Run.{landed, program, erase}
-use Rattle.records.specs.Table.{placeOf, holds, joined}
+use Rattle.records.specs.Table.{placeOf, holds, joined, falls, absorbed}
 use Rattle.scan.specs.Choosing.{bestFrom}
+use Rattle.scan.specs.Reading.{readFrom, headFrom}
 use Rattle.scan.specs.Opening.{scanOf, openOf}
 use Rattle.fitting.specs.Fitting.{allZeros, keysFit, logFits}
 use Rattle.writing.specs.Sectors.{writeRecords, writeSector}
@@ -101,3 +102,16 @@ pub wakes : (triesIn 1 3 (openOf (outcome pulled (played session (opened stick))
     ⊎ (triesIn 1 3 (openOf (outcome pulled (played session (opened stick)) .flash .image) .log) + 1 ≡ triesIn 1 3 (played session (opened stick) .log))
 unfolding pulled
 wakes = pulled-stick stick blank session typed lasts 1 3 (omega arith) (omega arith) (pulled .plan) .either (λ _. lucky)
+
+-- on a healthy flash the same spend answers 3, and programs one slot
+abbrev healthySpend : Made
+healthySpend = record { call = spend 1 3; plan = healthy }
+
+pub spends-well : (outcome healthySpend (played session (opened stick)) .value ≡ 3) × (outcome healthySpend (played session (opened stick)) .flash .programmed ≡ 16) × (outcome healthySpend (played session (opened stick)) .flash .erased ≡ 0)
+unfolding stick session played spendOf performed heldOf roomFor holds placeOf startOf spendFrom remainingOf failedOf appendOf triesFrom formatOf entered entryAnswer sectorsIn logFits allZeros keysFit allAre allKnown seeded placeFrom joined openOf scanOf bestFrom headerOf slotAt same commitFrom writeSector erase sectorAt withSector writeRecords program withSlot landed slotOf crcUnder crc32Of feed eat turns turn finished leBytes leNumber headerSlot
+spends-well = (refl, refl, refl)
+
+-- pulled at its fifth byte, the stick wakes with all three
+pub three-left : triesIn 1 3 (openOf (outcome pulled (played session (opened stick)) .flash .image) .log) ≡ 3
+unfolding stick session pulled played spendOf performed heldOf roomFor holds placeOf startOf spendFrom remainingOf failedOf appendOf triesFrom formatOf entered entryAnswer sectorsIn logFits allZeros keysFit allAre allKnown seeded placeFrom joined openOf scanOf bestFrom readFrom headFrom decoded decodedWith absorbed falls isMonotonic headerOf slotAt same commitFrom writeSector erase sectorAt withSector writeRecords program withSlot landed slotOf crcUnder crc32Of feed eat turns turn finished leBytes leNumber headerSlot
+three-left = refl

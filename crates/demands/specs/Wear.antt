@@ -14,3 +14,12 @@ pub record Wears (plan : Plan) (o : Outcome) : Type 0 where
   -- so a plan with these units, or without a limit, lasts through any call
   pub lasts : plan .limited ≡ false → o .flash .cut ≡ false
   pub spare : 73536 ≤ plan .units → o .flash .cut ≡ false
+
+-- "with unlimited power the figures are those of a plan with units to spare": everything but the plan
+pub record Alike (a b : Outcome) : Type 0 where
+  pub answer : a .answer ≡ b .answer
+  pub value : a .value ≡ b .value
+  pub log : a .log ≡ b .log
+  pub image : a .flash .image ≡ b .flash .image
+  pub programmed : a .flash .programmed ≡ b .flash .programmed
+  pub erased : a .flash .erased ≡ b .flash .erased
