@@ -1,8 +1,9 @@
--- Bottom up: a slot that was cut, tables and what is read, the invariant, what each step leaves, the calls, sessions.
+-- Slots that were cut, tables and what is read from them, the invariant, and how a program or erase ends.
 pub mod Torn
 pub mod Tables
 pub mod Invariant
 pub mod Endings
+-- Each write by what it leaves, cut or not, and by what it comes to on a healthy flash.
 pub mod Filling
 pub mod Sectors
 pub mod Commits
@@ -12,19 +13,21 @@ pub mod Performing
 pub mod Attaining
 pub mod Succeeding
 pub mod First
-pub mod Tracing
-pub mod Wear
+-- What the calls decide, that each is safe, and the demands on sessions.
 pub mod Deciding
 pub mod Trying
 pub mod Calls
 pub mod Demand3
+pub mod Spends
+pub mod Witness
+-- How any call ends on any image, log and plan, and what follows from that.
+pub mod Tracing
 pub mod Courses
 pub mod Demand1
+pub mod Demand2
+pub mod Wear
 pub mod Wearing
 pub mod Figures
 pub mod Leaving
-pub mod Demand2
 pub mod Sparing
 pub mod Spared
-pub mod Spends
-pub mod Witness
