@@ -19,6 +19,7 @@ pub mod Trying
 pub mod Calls
 pub mod Demand3
 pub mod Spends
+pub mod PulledStick
 pub mod Witness
 -- How any call ends on any image, log and plan, and what follows from that.
 pub mod Tracing

@@ -1,6 +1,6 @@
--- The tries after a spend, by the tables of before and after.
-use mathlib.Core.Path.{_≡_, refl, sym, ap, _∙_}
-use mathlib.Core.Bool.{Bool, true, false, _||_, false≢true}
+-- The tries after a spend, by the tables of before and after; and what is held of a key in a table that a record joined.
+use mathlib.Core.Path.{_≡_, refl, sym, ap, ap₂, _∙_}
+use mathlib.Core.Bool.{Bool, true, false, _&&_, _||_, false≢true}
 use mathlib.Core.List.{List, [], _∷_}
 use mathlib.Core.Logic.{_⊎_, inl, inr}
 use Prim.Native.Nat.{ℕ, suc, _+_, _<_}
@@ -8,11 +8,11 @@ use native.Mathlib.Omega.{arith}
 use lib.Dec.{T, eqb}
 use lib.ListN.{length, getD}
 use lib.Pow.{areBytes}
-use borrow.Author.Tests.{eq-eqb, ne-eqb, eqb-false}
+use borrow.Author.Tests.{eq-eqb, ne-eqb, eqb-true, eqb-false}
 use Rattle.basics.specs.Choice.{pick}
 use Rattle.basics.specs.Answers.{isDone}
 use Rattle.basics.specs.declared.Answer.the-variants.{WriteError}
-use Rattle.basics.proofs.Choice.{both, by-test}
+use Rattle.basics.proofs.Choice.{both, first, second, by-test}
 use Rattle.ids.specs.declared.CounterState.{CounterState}
 use Rattle.ids.specs.declared.Next.the-variants as next
 use Rattle.ids.specs.Ids.{counterTag, isCredential}
@@ -41,7 +41,7 @@ use Rattle.performing.specs.Outcomes.{Outcome, flashOf, refused, entered}
 use Rattle.performing.specs.Performing.{appended, performed}
 use Rattle.demands.specs.Chance.{Unmatched}
 use Rattle.demands.specs.Sessions.{World, opened, Made, played, AllTyped, Lasts}
-use Rattle.demands.specs.Spends.{triesIn, KeepsTries}
+use Rattle.demands.specs.PulledStick.{triesIn, KeepsTries}
 use Rattle.demands.proofs.Trying.{spend-sound}
 use Rattle.demands.proofs.Calls.{keyed-decided}
 use Rattle.demands.proofs.Demand3.{played-agrees}
@@ -75,8 +75,44 @@ module _ (r : Raw) where
   unfolding heldOf
   join-held t = ap (λ (b : Bool). pick b (some (getD (joined r t) (placeOf (r .tag) (r .id) (joined r t)) noRaw)) none) (join-own t) ∙ ap some (join-at t)
 
+-- ---- and what is held of another key stays
+module _ (r : Raw) (tag id : ℕ) (apart : hasKey tag id r ≡ false) where
+  same-apart : (e : Raw) → sameKey e r ≡ true → hasKey tag id e ≡ false
+  same-apart e k =
+      ap₂ (λ (a b : ℕ). eqb a tag && eqb b id) (eqb-true (e .tag) (r .tag) (first (eqb (e .tag) (r .tag)) (eqb (e .id) (r .id)) k)) (eqb-true (e .id) (r .id) (second (eqb (e .tag) (r .tag)) (eqb (e .id) (r .id)) k)) ∙ apart
+
+  holds-other : (t : List Raw) → holds tag id (joined r t) ≡ holds tag id t
+  unfolding joined holds
+  holds-other [] = ap (λ (b : Bool). b || false) apart
+  holds-other (e ∷ es) = go (holds-other es) (sameKey e r) refl
+    where
+      go : holds tag id (joined r es) ≡ holds tag id es → (b : Bool) → sameKey e r ≡ b → holds tag id (pick b (r ∷ es) (e ∷ joined r es)) ≡ hasKey tag id e || holds tag id es
+      go ih true k = ap (λ (b : Bool). b || holds tag id es) (apart ∙ sym (same-apart e k))
+      go ih false k = ap (λ (b : Bool). hasKey tag id e || b) ih
+
+  at-other : (t : List Raw) → getD (joined r t) (placeOf tag id (joined r t)) noRaw ≡ getD t (placeOf tag id t) noRaw
+  unfolding joined placeOf
+  at-other [] = ap (λ (b : Bool). getD (r ∷ []) (pick b 0 1) noRaw) apart
+  at-other (e ∷ es) = go (at-other es) (sameKey e r) refl
+    where
+      later : getD (joined r es) (placeOf tag id (joined r es)) noRaw ≡ getD es (placeOf tag id es) noRaw → (c : Bool)
+          → getD (e ∷ joined r es) (pick c 0 (suc (placeOf tag id (joined r es)))) noRaw ≡ getD (e ∷ es) (pick c 0 (suc (placeOf tag id es))) noRaw
+      later ih true = refl
+      later ih false = ih
+
+      go : getD (joined r es) (placeOf tag id (joined r es)) noRaw ≡ getD es (placeOf tag id es) noRaw → (b : Bool) → sameKey e r ≡ b
+          → getD (pick b (r ∷ es) (e ∷ joined r es)) (placeOf tag id (pick b (r ∷ es) (e ∷ joined r es))) noRaw ≡ getD (e ∷ es) (pick (hasKey tag id e) 0 (suc (placeOf tag id es))) noRaw
+      go ih true k =
+          ap (λ (b : Bool). getD (r ∷ es) (pick b 0 (suc (placeOf tag id es))) noRaw) apart
+          ∙ sym (ap (λ (b : Bool). getD (e ∷ es) (pick b 0 (suc (placeOf tag id es))) noRaw) (same-apart e k))
+      go ih false k = later ih (hasKey tag id e)
+
+  pub join-other : (t : List Raw) → heldOf tag id (joined r t) ≡ heldOf tag id t
+  unfolding heldOf
+  join-other t = ap₂ (λ (b : Bool) (x : Raw). pick b (some x) none) (holds-other t) (at-other t)
+
 -- ---- the records that a table shows
-abbrev recordsIn : Table → List Raw
+abbrev pub recordsIn : Table → List Raw
 recordsIn blank = []
 recordsIn broken = []
 recordsIn (holding t) = t

@@ -37,7 +37,7 @@ use Rattle.demands.specs.Chance.{cutAt, ChanceMatch}
 use Rattle.demands.specs.Healthy.{healthy}
 use Rattle.demands.specs.Typed.{TypedSeeds}
 use Rattle.demands.specs.Calls.{format, spend, NoChance}
-use Rattle.demands.specs.Spends.{triesIn}
+use Rattle.demands.specs.PulledStick.{triesIn}
 use Rattle.demands.proofs.Spends.{pulled-stick}
 use Rattle.demands.specs.Sessions.{opened, Made, outcome, played, AllTyped, Lasts}
 

@@ -8,7 +8,7 @@ pub mod Sessions
 pub mod Demand1
 pub mod Demand2
 pub mod Demand3
-pub mod Spends
+pub mod PulledStick
 pub mod Wear
 pub mod Figures
 pub mod Leaves

@@ -1,0 +1,115 @@
+-- The pulled stick: whatever is called, refused or cut, no tries are given back, and none are lost that were not begun to be spent.
+-- One call more on the log of a session first, which is a spend, a set or another; then the session.
+use mathlib.Core.Path.{_≡_}
+use mathlib.Core.Bool.{Bool, true, false}
+use mathlib.Core.List.{List, [], _∷_}
+use mathlib.Core.Logic.{_⊎_}
+use Prim.Native.Nat.{ℕ, _+_, _≤_, _<_}
+use lib.Dec.{eqb}
+use Rattle.basics.specs.Choice.{pick}
+use Rattle.basics.specs.Answers.{isDone}
+use Rattle.ids.specs.Ids.{counterTag}
+use Rattle.ids.specs.Counters.{remainingOf}
+use Rattle.codec.specs.declared.OptRaw.{OptRaw}
+use Rattle.bodies.specs.Bodies.{counterIn}
+use Rattle.flash.specs.declared.Plan.{Plan}
+use Rattle.records.specs.declared.Log.{Log}
+use Rattle.records.specs.Logs.{recordsOf}
+use Rattle.scan.specs.Opening.{openOf}
+use Rattle.reading.specs.Entering.{heldOf}
+use Rattle.tries.specs.Tries.{startOf}
+use Rattle.demands.specs.Calls.{Call, put, put-value, put-anchor, format, spend, set-tries, advance-lamport, Typed, NoChance}
+use Rattle.demands.specs.Sessions.{World, opened, Made, outcome, played}
+
+-- the log that is found after a call
+abbrev pub woken : World → Made → Log
+woken w m = openOf (outcome m w .flash .image) .log
+
+-- of a call that was cut the chance match is ruled out
+abbrev pub Lucky : World → Made → Type 0
+Lucky w m = outcome m w .flash .cut ≡ true → NoChance (m .call) (w .image) (w .log) (m .plan)
+
+-- ---- a spend
+-- the tries that a log holds for a credential; the caller's number where it holds no record
+abbrev pub triesIn : ℕ → ℕ → Log → ℕ
+triesIn credential current log = remainingOf (startOf (heldOf counterTag credential (recordsOf log)) current)
+
+abbrev pub spending : ℕ → ℕ → Plan → Made
+spending credential current plan = record { call = spend credential current; plan = plan }
+
+pub record KeepsTries (w : World) (credential current : ℕ) (plan : Plan) : Type 0 where
+  -- pulled or not, the tries it had or one fewer
+  pub either : Lucky w (spending credential current plan)
+      → (triesIn credential current (woken w (spending credential current plan)) ≡ triesIn credential current (w .log)) ⊎ (triesIn credential current (woken w (spending credential current plan)) + 1 ≡ triesIn credential current (w .log))
+  -- a spend that answered 0 while tries were left has taken one
+  pub taken : isDone (outcome (spending credential current plan) w .answer) ≡ true → 0 < triesIn credential current (w .log)
+      → triesIn credential current (woken w (spending credential current plan)) + 1 ≡ triesIn credential current (w .log)
+
+-- ---- a set
+-- a record is held, and by it so many tries remain
+abbrev pub Remain : ℕ → OptRaw → Type 0
+Remain tries held = (held .some ≡ true) × (remainingOf (counterIn (held .raw .body)) ≡ tries)
+
+abbrev pub Has : ℕ → ℕ → Log → Type 0
+Has credential tries log = Remain tries (heldOf counterTag credential (recordsOf log))
+
+abbrev pub setting : ℕ → ℕ → Plan → Made
+setting credential new plan = record { call = set-tries credential new; plan = plan }
+
+pub record KeepsSet (w : World) (credential tries new : ℕ) (plan : Plan) : Type 0 where
+  -- pulled or not, the tries from before or the new number
+  pub either : Lucky w (setting credential new plan) → Has credential tries (woken w (setting credential new plan)) ⊎ Has credential new (woken w (setting credential new plan))
+  -- the latter if it answered 0
+  pub success : isDone (outcome (setting credential new plan) w .answer) ≡ true → Has credential new (woken w (setting credential new plan))
+
+-- ---- any other call
+-- a put or a set of the credential; a format is refused where a record is held
+abbrev pub sets : ℕ → Call → Bool
+sets credential (put other new) = eqb other credential
+sets credential (put-value id new) = false
+sets credential (put-anchor new) = false
+sets credential (format seeds count) = false
+sets credential (spend other current) = false
+sets credential (set-tries other tries) = eqb other credential
+sets credential (advance-lamport latest) = false
+
+-- the spends on the credential that a call begins, one or none
+abbrev pub begun : ℕ → Call → ℕ
+begun credential (put other new) = 0
+begun credential (put-value id new) = 0
+begun credential (put-anchor new) = 0
+begun credential (format seeds count) = 0
+begun credential (spend other current) = pick (eqb other credential) 1 0
+begun credential (set-tries other tries) = 0
+begun credential (advance-lamport latest) = 0
+
+-- a call that neither sets the credential nor spends on it leaves its tries
+abbrev pub LeavesTries : World → Made → ℕ → ℕ → Type 0
+LeavesTries w m credential tries = sets credential (m .call) ≡ false → begun credential (m .call) ≡ 0 → Lucky w m → Has credential tries (woken w m)
+
+-- ---- a session
+unfoldable pub NoneSets : ℕ → List Made → Type 0
+NoneSets credential [] = Unit {0}
+NoneSets credential (m ∷ ms) = (sets credential (m .call) ≡ false) × NoneSets credential ms
+
+unfoldable pub begunIn : ℕ → List Made → ℕ
+begunIn credential [] = 0
+begunIn credential (m ∷ ms) = begun credential (m .call) + begunIn credential ms
+
+-- what is held after so many spends were begun
+pub record Between (tries spends : ℕ) (held : OptRaw) : Type 0 where
+  pub left : ℕ
+  pub remain : Remain left held
+  -- no tries are given back
+  pub none-back : left ≤ tries
+  -- none are lost that were not begun to be spent
+  pub none-lost : tries ≤ left + spends
+
+abbrev pub Finds : ℕ → ℕ → ℕ → Log → Type 0
+Finds credential tries spends log = Between tries spends (heldOf counterTag credential (recordsOf log))
+
+-- a session that opened a log with so many tries, while power lasts and at the call that is cut
+pub record KeepsCount (image : List ℕ) (ms : List Made) (credential tries : ℕ) : Type 0 where
+  pub powered : Finds credential tries (begunIn credential ms) (openOf (played ms (opened image) .image) .log)
+  pub pulled : (m : Made) → Typed (m .call) → sets credential (m .call) ≡ false → Lucky (played ms (opened image)) m
+      → Finds credential tries (begunIn credential ms + begun credential (m .call)) (woken (played ms (opened image)) m)
