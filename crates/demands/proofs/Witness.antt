@@ -37,7 +37,7 @@ use Rattle.demands.specs.Chance.{cutAt, ChanceMatch}
 use Rattle.demands.specs.Healthy.{healthy}
 use Rattle.demands.specs.Typed.{TypedSeeds}
 use Rattle.demands.specs.Calls.{format, spend, NoChance}
-use Rattle.demands.specs.PulledStick.{triesIn}
+use Rattle.demands.specs.PulledStick.{triesIn, Has}
 use Rattle.demands.proofs.Spends.{pulled-stick}
 use Rattle.demands.specs.Sessions.{opened, Made, outcome, played, AllTyped, Lasts}
 
@@ -115,3 +115,8 @@ spends-well = (refl, refl, refl)
 pub three-left : triesIn 1 3 (openOf (outcome pulled (played session (opened stick)) .flash .image) .log) ≡ 3
 unfolding stick session pulled played spendOf performed heldOf roomFor holds placeOf startOf spendFrom remainingOf failedOf appendOf triesFrom formatOf entered entryAnswer sectorsIn logFits allZeros keysFit allAre allKnown seeded placeFrom joined openOf scanOf bestFrom readFrom headFrom decoded decodedWith absorbed falls isMonotonic headerOf slotAt same commitFrom writeSector erase sectorAt withSector writeRecords program withSlot landed slotOf crcUnder crc32Of feed eat turns turn finished leBytes leNumber headerSlot
 three-left = refl
+
+-- and the formatted stick, opened again, holds the credential with three tries, so that a session may begin with it
+pub holds-three : Has 1 3 (openOf (played session (opened stick) .image) .log)
+unfolding stick session played heldOf holds placeOf remainingOf formatOf entered entryAnswer sectorsIn logFits allZeros keysFit allAre allKnown seeded placeFrom joined openOf scanOf bestFrom readFrom headFrom decoded decodedWith absorbed falls isMonotonic headerOf slotAt same commitFrom writeSector erase sectorAt withSector writeRecords program withSlot landed slotOf crcUnder crc32Of feed eat turns turn finished leBytes leNumber headerSlot
+holds-three = (refl, refl)
