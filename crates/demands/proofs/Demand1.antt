@@ -1,14 +1,14 @@
--- Demand 1: a call that fails a test is refused before anything else, and a write answers 0, 6 or 7 only.
+-- Demand 1: a call that fails a test is refused before anything else, and a write answers 0, 6 or 7 only. The calls that only read stand last.
 use mathlib.Core.Path.{_≡_, refl, sym, ap, _∙_}
 use mathlib.Core.Bool.{Bool, true, false, false≢true}
 use mathlib.Core.List.{List, [], _∷_}
 use Prim.Native.Nat.{ℕ, zero, suc, _+_}
-use lib.Dec.{eqb}
+use lib.Dec.{eqb, leb}
 use lib.ListN.{length}
 use borrow.Author.Tests.{eq-eqb, ne-eqb}
 use Rattle.basics.specs.Choice.{pick}
 use Rattle.basics.specs.Lists.{same}
-use Rattle.basics.specs.Answers.{isDone}
+use Rattle.basics.specs.Answers.{numberOf, isDone}
 use Rattle.basics.specs.declared.Answer.{Answer}
 use Rattle.basics.specs.declared.Answer.the-variants.{Done, BadImage, BadLog, BadId, NotFormatted, ReadError, WriteError}
 use Rattle.basics.proofs.Choice.{by-test}
@@ -26,19 +26,24 @@ use Rattle.writing.specs.Sectors.{onDone, writeRecords, writeSector}
 use Rattle.writing.specs.Commits.{Wrote, after, commitFrom}
 use Rattle.writing.specs.Appends.{Tried, triesFrom, appendOf}
 use Rattle.reading.specs.Entering.{entryAnswer, heldOf, roomFor}
+use Rattle.reading.specs.declared.Counter.the-variants as counter
+use Rattle.reading.specs.declared.Number.the-variants as number
+use Rattle.reading.specs.declared.Anchored.the-variants as anchored
+use Rattle.reading.specs.Reads.{readBy, counterBy, getOf, numberBy, valueOf, anchorBy, anchorOf, told, refusedTold, lamportBy, migrationBy, needsMigrationOf}
 use Rattle.performing.specs.Outcomes.{Outcome, flashOf, refused, entered}
 use Rattle.ids.specs.declared.Anchor.{Anchor}
-use Rattle.ids.specs.Ids.{counterTag, valueTag, lamport, isCredential, isValue}
+use Rattle.ids.specs.Ids.{counterTag, valueTag, anchorTag, lamport as lamportId, isCredential, isValue}
 use Rattle.codec.specs.declared.OptRaw.{OptRaw}
-use Rattle.records.specs.Logs.{recordsOf}
+use Rattle.records.specs.Logs.{recordsOf, logOf}
+use Rattle.scan.specs.Opening.{scanOf, logFrom, openOf}
 use Rattle.deciding.specs.declared.Decision.{Decision}
 use Rattle.deciding.specs.Decisions.{whenActive, putDecision, valueDecision}
 use Rattle.seeding.specs.Seeds.{seedsKnown, seedTable}
 use Rattle.performing.specs.Performing.{performed, decided, formatted}
-use Rattle.log.specs.Calls.{isFirst, anchoredFirst, anchored, formatOn, putOf, putValueOf, putAnchorOf, formatOf}
-use Rattle.tries.specs.Tries.{spendDecision, spendOf, setDecision, setOf, advanceDecision, advanceOf}
+use Rattle.log.specs.Calls.{isFirst, anchoredFirst, anchored as anchoredOn, formatOn, putOf, putValueOf, putAnchorOf, formatOf}
+use Rattle.tries.specs.Tries.{remainingIn, loadBy, spendDecision, spendOf, setDecision, setOf, advanceDecision, advanceOf}
 use Rattle.demands.specs.Calls.{Call, put, put-value, put-anchor, format, spend, set-tries, advance-lamport, outcomeOf}
-use Rattle.demands.specs.Demand1.{leavesAll, knownIn, byState, stateAnswer, Refuses}
+use Rattle.demands.specs.Demand1.{leavesAll, knownIn, byState, stateAnswer, Refuses, Asked, get, get-value, remaining, anchor, lamport, needs-migration, load, replyOf, turnedAway, knownTo, stateReply, RefusesAsked, RefusesImage}
 use Rattle.demands.proofs.Courses.{Course, refusal, given, appends, formats, anchors, call-course}
 
 -- ---- a write answers 0, 6 or 7
@@ -100,7 +105,25 @@ append-answers n s seq head next r t f =
     (λ _. commit-answers n n s (after n s) t WriteError (Active s seq (triesFrom 3 s head (slotOf seq r) WriteError f .head)) next (triesFrom 3 s head (slotOf seq r) WriteError f .flash) refl)
     (λ _. tries-answers 3 s head (slotOf seq r) WriteError f refl)
 
--- ---- the demand
+-- ---- the tests in their order
+module _ (n : ℕ) (log : Log) (known : Bool) where
+  no-image : n ≡ 0 → entryAnswer n log known ≡ BadImage
+  unfolding entryAnswer
+  no-image e = rw (eq-eqb n 0 e)
+
+  bad-log : (n ≡ 0 → ⊥) → logFits n log ≡ false → entryAnswer n log known ≡ BadLog
+  unfolding entryAnswer
+  bad-log e k = rw (ne-eqb n 0 e, k)
+
+  bad-id : (n ≡ 0 → ⊥) → logFits n log ≡ true → known ≡ false → entryAnswer n log known ≡ BadId
+  unfolding entryAnswer
+  bad-id e k z = rw (ne-eqb n 0 e, k, z)
+
+  let-in : (n ≡ 0 → ⊥) → logFits n log ≡ true → known ≡ true → entryAnswer n log known ≡ Done
+  unfolding entryAnswer
+  let-in e k z = rw (ne-eqb n 0 e, k, z)
+
+-- ---- the calls that can write
 module _ (image : List ℕ) (log : Log) (plan : Plan) where
   abbrev n : ℕ
   n = sectorsIn (length image)
@@ -119,19 +142,6 @@ module _ (image : List ℕ) (log : Log) (plan : Plan) where
   unfolding entered
   entered-refuses known call a e d = ap (λ (x : Answer). pick (isDone x) (call n log f) (refused x log f)) e ∙ ap (λ (b : Bool). pick b (call n log f) (refused a log f)) d
 
-  module _ (known : Bool) where
-    no-image : n ≡ 0 → entryAnswer n log known ≡ BadImage
-    unfolding entryAnswer
-    no-image e = rw (eq-eqb n 0 e)
-
-    bad-log : (n ≡ 0 → ⊥) → logFits n log ≡ false → entryAnswer n log known ≡ BadLog
-    unfolding entryAnswer
-    bad-log e k = rw (ne-eqb n 0 e, k)
-
-    bad-id : (n ≡ 0 → ⊥) → logFits n log ≡ true → known ≡ false → entryAnswer n log known ≡ BadId
-    unfolding entryAnswer
-    bad-id e k z = rw (ne-eqb n 0 e, k, z)
-
   call-refuses : (c : Call) (a : Answer) → entryAnswer n log (knownIn c) ≡ a → isDone a ≡ false → outcomeOf c image log plan ≡ refused a log f
   unfolding putOf putValueOf putAnchorOf formatOf spendOf setOf advanceOf
   call-refuses (put credential new) = entered-refuses (knownIn (put credential new)) _
@@ -145,8 +155,8 @@ module _ (image : List ℕ) (log : Log) (plan : Plan) where
   -- ---- a call that was let in
   module _ (some : n ≡ 0 → ⊥) (fits : logFits n log ≡ true) where
     pub entered-on : (known : Bool) (call : ℕ → Log → Flash → Outcome) → known ≡ true → entered image log plan known call ≡ call n log f
-    unfolding entered entryAnswer
-    entered-on known call k = rw (ne-eqb n 0 some, fits, k)
+    unfolding entered
+    entered-on known call k = ap (λ (x : Answer). pick (isDone x) (call n log f) (refused x log f)) (let-in n log known some fits k)
 
     inactive : (d : Decision) (z : State) → isDone (byState NotFormatted ReadError Done z) ≡ false → performed (whenActive z d) n log f ≡ refused (byState NotFormatted ReadError Done z) log f
     unfolding performed
@@ -164,7 +174,7 @@ module _ (image : List ℕ) (log : Log) (plan : Plan) where
     format-not-ready t (Active sector seq head) e = refl
 
     anchor-not-ready : (new : Anchor) (z : State) → isDone (byState (pick (isFirst new) Done NotFormatted) ReadError Done z) ≡ false
-        → anchored z new n log f ≡ refused (byState (pick (isFirst new) Done NotFormatted) ReadError Done z) log f
+        → anchoredOn z new n log f ≡ refused (byState (pick (isFirst new) Done NotFormatted) ReadError Done z) log f
     anchor-not-ready new Unformatted e = go (isFirst new) e
       where
         go : (b : Bool) → isDone (pick b Done NotFormatted) ≡ false → pick b (anchoredFirst new n (formatted [] n log f)) (refused NotFormatted log f) ≡ refused (pick b Done NotFormatted) log f
@@ -177,18 +187,81 @@ module _ (image : List ℕ) (log : Log) (plan : Plan) where
     unfolding putOf putValueOf putAnchorOf formatOf spendOf setOf advanceOf
     call-not-ready (put credential new) k e = keyed-not-ready (isCredential credential) counterTag credential (λ (held : OptRaw) (room : Bool). putDecision held room credential new) k e
     call-not-ready (put-value id new) k e = keyed-not-ready (isValue id) valueTag id (λ (held : OptRaw) (room : Bool). valueDecision held room id new) k e
-    call-not-ready (put-anchor new) k e = entered-on true (λ (n : ℕ) (l : Log) (f : Flash). anchored (l .state) new n l f) k ∙ anchor-not-ready new (log .state) e
+    call-not-ready (put-anchor new) k e = entered-on true (λ (n : ℕ) (l : Log) (f : Flash). anchoredOn (l .state) new n l f) k ∙ anchor-not-ready new (log .state) e
     call-not-ready (format seeds count) k e =
         entered-on (seedsKnown seeds count) (λ (n : ℕ) (l : Log) (f : Flash). formatOn (l .state) (seedTable seeds count) n l f) k ∙ format-not-ready (seedTable seeds count) (log .state) e
     call-not-ready (spend credential current) k e = keyed-not-ready (isCredential credential) counterTag credential (λ (held : OptRaw) (room : Bool). spendDecision held room credential current) k e
     call-not-ready (set-tries credential tries) k e = keyed-not-ready (isCredential credential) counterTag credential (λ (held : OptRaw) (room : Bool). setDecision held room credential tries) k e
-    call-not-ready (advance-lamport latest) k e = keyed-not-ready true valueTag lamport (λ (held : OptRaw) (room : Bool). advanceDecision held room latest) k e
+    call-not-ready (advance-lamport latest) k e = keyed-not-ready true valueTag lamportId (λ (held : OptRaw) (room : Bool). advanceDecision held room latest) k e
 
   pub demand-1 : (c : Call) → Refuses c image log plan
   demand-1 c = record {
-    no-image = λ e. call-refuses c BadImage (no-image (knownIn c) e) refl;
-    bad-log = λ e k. call-refuses c BadLog (bad-log (knownIn c) e k) refl;
-    bad-id = λ e k z. call-refuses c BadId (bad-id (knownIn c) e k z) refl;
+    no-image = λ e. call-refuses c BadImage (no-image n log (knownIn c) e) refl;
+    bad-log = λ e k. call-refuses c BadLog (bad-log n log (knownIn c) e k) refl;
+    bad-id = λ e k z. call-refuses c BadId (bad-id n log (knownIn c) e k z) refl;
     not-ready = λ e k. call-not-ready e k c;
     unchanged = course-unchanged (outcomeOf c image log plan) (call-course image log plan c);
   }
+
+-- ---- the calls that only read
+module _ (log : Log) where
+  some-sectors : _≡_ {A = ℕ} 16 0 → ⊥
+  some-sectors e = false≢true (ap (λ (x : ℕ). eqb x 0) e)
+
+  module _ {A : Type 0} (by : State → OptRaw → A) (refused : Answer → A) (known : Bool) (tag id : ℕ) where
+    read-refused : (a : Answer) → entryAnswer 16 log known ≡ a → isDone a ≡ false → readBy by refused log known tag id ≡ refused a
+    read-refused a e d =
+        ap (λ (x : Answer). pick (isDone x) (by (log .state) (heldOf tag id (recordsOf log))) (refused x)) e ∙ ap (λ (b : Bool). pick b (by (log .state) (heldOf tag id (recordsOf log))) (refused a)) d
+
+    read-on : entryAnswer 16 log known ≡ Done → readBy by refused log known tag id ≡ by (log .state) (heldOf tag id (recordsOf log))
+    read-on e = ap (λ (x : Answer). pick (isDone x) (by (log .state) (heldOf tag id (recordsOf log))) (refused x)) e
+
+  -- 2 and 3; load tells them from 4 and 5 by their numbers
+  asked-refused : (q : Asked) (a : Answer) → entryAnswer 16 log (knownTo q) ≡ a → isDone a ≡ false → leb 4 (numberOf a) ≡ false → replyOf q log ≡ turnedAway q a
+  unfolding getOf valueOf anchorOf needsMigrationOf
+  asked-refused (get credential) a e d low = read-refused counterBy counter.Refused (isCredential credential) counterTag credential a e d
+  asked-refused (get-value id) a e d low = read-refused numberBy number.Refused (isValue id) valueTag id a e d
+  asked-refused (remaining credential) a e d low = ap remainingIn (read-refused counterBy counter.Refused (isCredential credential) counterTag credential a e d)
+  asked-refused anchor a e d low = read-refused anchorBy anchored.Refused true anchorTag 0 a e d
+  asked-refused lamport a e d low = ap lamportBy (read-refused numberBy number.Refused true valueTag lamportId a e d)
+  asked-refused needs-migration a e d low = read-refused migrationBy refusedTold true anchorTag 0 a e d
+  asked-refused (load credential exists fresh) a e d low =
+      ap (loadBy exists fresh) (ap remainingIn (read-refused counterBy counter.Refused (isCredential credential) counterTag credential a e d))
+      ∙ ap (λ (b : Bool). pick b (told 0) (refusedTold a)) low
+
+  by-counter : (z : State) (held : OptRaw) → isDone (byState NotFormatted ReadError Done z) ≡ false → counterBy z held ≡ counter.Refused (byState NotFormatted ReadError Done z)
+  by-counter Unformatted held e = refl
+  by-counter Failed held e = refl
+  by-counter (Active sector seq head) held e = absurd (false≢true (sym e))
+
+  by-number : (z : State) (held : OptRaw) → isDone (byState NotFormatted ReadError Done z) ≡ false → numberBy z held ≡ number.Refused (byState NotFormatted ReadError Done z)
+  by-number Unformatted held e = refl
+  by-number Failed held e = refl
+  by-number (Active sector seq head) held e = absurd (false≢true (sym e))
+
+  by-anchor : (z : State) (held : OptRaw) → isDone (byState Done ReadError Done z) ≡ false → anchorBy z held ≡ anchored.Refused (byState Done ReadError Done z)
+  by-anchor Unformatted held e = absurd (false≢true (sym e))
+  by-anchor Failed held e = refl
+  by-anchor (Active sector seq head) held e = absurd (false≢true (sym e))
+
+  asked-not-ready : (q : Asked) → entryAnswer 16 log (knownTo q) ≡ Done → isDone (stateReply q (log .state)) ≡ false → replyOf q log ≡ turnedAway q (stateReply q (log .state))
+  unfolding getOf valueOf anchorOf needsMigrationOf
+  asked-not-ready (get credential) e d = read-on counterBy counter.Refused (isCredential credential) counterTag credential e ∙ by-counter (log .state) _ d
+  asked-not-ready (get-value id) e d = read-on numberBy number.Refused (isValue id) valueTag id e ∙ by-number (log .state) _ d
+  asked-not-ready (remaining credential) e d = ap remainingIn (read-on counterBy counter.Refused (isCredential credential) counterTag credential e ∙ by-counter (log .state) _ d)
+  asked-not-ready anchor e d = read-on anchorBy anchored.Refused true anchorTag 0 e ∙ by-anchor (log .state) _ d
+  asked-not-ready lamport e d = ap lamportBy (read-on numberBy number.Refused true valueTag lamportId e ∙ by-number (log .state) _ d)
+  asked-not-ready needs-migration e d = absurd (false≢true (sym d))
+  asked-not-ready (load credential exists fresh) e d = absurd (false≢true (sym d))
+
+  pub demand-1-asked : (q : Asked) → RefusesAsked q log
+  demand-1-asked q = record {
+    bad-log = λ k. asked-refused q BadLog (bad-log 16 log (knownTo q) some-sectors k) refl refl;
+    bad-id = λ k z. asked-refused q BadId (bad-id 16 log (knownTo q) some-sectors k z) refl refl;
+    not-ready = λ k z. asked-not-ready q (let-in 16 log (knownTo q) some-sectors k z);
+  }
+
+-- ---- opening
+pub demand-1-open : (image : List ℕ) → RefusesImage image
+unfolding openOf
+demand-1-open image e = ap (λ (b : Bool). pick b (record { answer = BadImage; log = logOf Failed 1 [] }) (record { answer = Done; log = logFrom (scanOf 2 image) })) (eq-eqb (sectorsIn (length image)) 0 e)

@@ -12,7 +12,7 @@ use borrow.Author.Tests.{eqb-true}
 use Rattle.basics.specs.Choice.{pick}
 use Rattle.basics.specs.Answers.{isDone}
 use Rattle.basics.specs.declared.Answer.{Answer}
-use Rattle.basics.proofs.Choice.{second, by-test}
+use Rattle.basics.proofs.Choice.{first, second, by-test}
 use Rattle.ids.specs.declared.CounterState.{CounterState}
 use Rattle.ids.specs.declared.Anchor.{Anchor}
 use Rattle.ids.specs.Ids.{counterTag, valueTag, anchorTag, lamport, isCredential, isValue}
@@ -54,7 +54,7 @@ use Rattle.demands.proofs.Deciding.{Decided, refuses, gives, writes, So
 use Rattle.demands.proofs.Trying.{spend-decided, set-decided, advance-decided, spend-sound, set-sound, advance-sound}
 use Rattle.demands.proofs.Calls.{keyed-decided}
 use Rattle.demands.proofs.Demand3.{Agree, played-agrees}
-use Rattle.demands.proofs.Spends.{join-held, join-other, recordsIn, shown-records, spend-writes}
+use Rattle.demands.proofs.Spends.{join-held, join-other, recordsIn, shown-records, spend-writes, keyed-answered}
 
 -- ---- the records that are found
 reopened : (image : List ℕ) (log : Log) → Inv image log → recordsOf (openOf image .log) ≡ recordsOf log
@@ -150,123 +150,166 @@ module _ (image : List ℕ) (log : Log) (i : Inv image log) where
         keyed-comes true valueTag lamport (λ (held : OptRaw) (room : Bool). advanceDecision held room latest)
         (λ t. valueRecord lamport (seenOf (heldOf valueTag lamport t) latest + 1)) (advance-sound latest typed) plan
 
-  -- ---- a credential that is held
+  -- ---- a credential
   by-decision : (P : List Raw → Type 0) (room : Bool) (r : Raw) (Q : Type 0) (d : Decision) → Decided room r Q d → P t → P (joined r t) → P (recordsIn (decidedTable d log))
   by-decision P room r Q d (refuses a k) p q = subst P (shown-records image log i) p
   by-decision P room r Q d (gives value) p q = subst P (shown-records image log i) p
   by-decision P room r Q d (writes value h k) p q = q
 
-  module _ (credential tries : ℕ) (has : Has credential tries log) where
+  decided-rec : (room : Bool) (r : Raw) (Q : Type 0) (d : Decision) → Decided room r Q d → d .write ≡ true → d .rec ≡ r
+  decided-rec room r Q d (refuses a k) e = absurd (false≢true e)
+  decided-rec room r Q d (gives value) e = absurd (false≢true e)
+  decided-rec room r Q d (writes value h k) e = refl
+
+  module _ (credential : ℕ) where
     abbrev heldIn : List Raw → OptRaw
     heldIn u = heldOf counterTag credential u
-
-    -- only an Active log holds a record
-    held-active : (s : ℕ) × (seq : ℕ) × (head : ℕ) × (log .state ≡ Active s seq head)
-    unfolding heldOf holds
-    held-active = go (log .state) refl (i .agrees .found)
-      where
-        empty : t ≡ [] → ⊥
-        empty e = false≢true (ap (λ (u : List Raw). heldOf counterTag credential u .some) (sym e) ∙ has .0)
-
-        go : (z : State) → log .state ≡ z → Found z n image (log .«next_seq») t → (s : ℕ) × (seq : ℕ) × (head : ℕ) × (log .state ≡ Active s seq head)
-        go Unformatted e f = absurd (empty (f .0))
-        go Failed e f = absurd (empty (f .0))
-        go (Active s seq head) e f = (s, seq, head, e)
-
-    held-comes : (c : Call) → Typed c → (plan : Plan) → SafeCall n (Unmatched (appendsTo c image log plan) (recordOf c t)) (λ z. z ≡ seen log) (decidedTable (decisionOf c t) log) (outcomeOf c image log plan)
-    held-comes = let a = held-active in call-comes (a .0) (a .1) (a .2) (a .3)
-
-    -- the caller's number is not looked at
-    start-tries : (fresh : ℕ) → remainingOf (startOf (heldIn t) fresh) ≡ tries
-    unfolding startOf
-    start-tries fresh = ap (λ (b : Bool). remainingOf (pick b (counterIn (heldIn t .raw .body)) (freshOf fresh))) (has .0) ∙ has .1
-
-    -- a key that is held has room
-    held-room : roomFor counterTag credential t ≡ true
-    unfolding heldOf roomFor
-    held-room = go (holds counterTag credential t) (has .0)
-      where
-        go : (b : Bool) → pick b (some (getD t (placeOf counterTag credential t) noRaw)) none .some ≡ true → b || ltb (length t) limit ≡ true
-        go true e = refl
-        go false e = absurd (false≢true e)
 
     -- a counter of the credential that joined
     own-remain : (s : CounterState) → Remain (remainingOf s) (heldIn (joined (counterRecord credential s) t))
     own-remain s = subst (Remain (remainingOf s)) (sym (join-held (counterRecord credential s) t)) (refl, ap remainingOf (counter-read s))
 
-    -- ---- a set leads to the new number
-    set-later : (new : ℕ) → Remain new (heldIn (recordsIn (decidedTable (setDecision (heldIn t) (roomFor counterTag credential t) credential new) log)))
-    unfolding setDecision
-    set-later new = go (heldIn t .some && eqb (remainingOf s) new) refl
-      where
-        s : CounterState
-        s = startOf (heldIn t) new
+    -- ---- a set leads to the counter from before or to the new number, and to the latter where it answers 0
+    module _ (new : ℕ) where
+      abbrev s : CounterState
+      s = startOf (heldIn t) new
 
-        go : (b : Bool) → heldIn t .some && eqb (remainingOf s) new ≡ b
-            → Remain new (heldIn (recordsIn (decidedTable (pick b (give 0) (write (roomFor counterTag credential t) (counterRecord credential (resetOf s new)) 0)) log)))
-        go true e =
-            subst (λ (u : List Raw). Remain new (heldIn u)) (shown-records image log i)
-            (has .0, has .1 ∙ sym (start-tries new) ∙ eqb-true (remainingOf s) new (second (heldIn t .some) (eqb (remainingOf s) new) e))
-        go false e =
-            subst (λ (room : Bool). Remain new (heldIn (recordsIn (decidedTable (write room (counterRecord credential (resetOf s new)) 0) log)))) (sym held-room)
-            (subst (λ (m : ℕ). Remain m (heldIn (joined (counterRecord credential (resetOf s new)) t))) (remaining-reset s new) (own-remain (resetOf s new)))
+      abbrev d : Decision
+      d = setDecision (heldIn t) (roomFor counterTag credential t) credential new
 
-    -- ---- any other call leads to the tries from before, a spend to these or one fewer
-    unspent : (spends : ℕ) → Between tries spends (heldIn t)
-    unspent spends = record { left = tries; remain = has; none-back = omega arith; none-lost = omega arith }
+      reset-remain : (r : Raw) → r ≡ counterRecord credential (resetOf s new) → Remain new (heldIn (joined r t))
+      reset-remain r e = subst (λ (x : Raw). Remain new (heldIn (joined x t))) (sym e) (subst (λ (m : ℕ). Remain m (heldIn (joined (counterRecord credential (resetOf s new)) t))) (remaining-reset s new) (own-remain (resetOf s new)))
 
-    other-later : (room : Bool) (r : Raw) (Q : Type 0) (d : Decision) → Decided room r Q d → hasKey counterTag credential r ≡ false → Between tries 0 (heldIn (recordsIn (decidedTable d log)))
-    other-later room r Q d made apart = by-decision (λ (u : List Raw). Between tries 0 (heldIn u)) room r Q d made (unspent 0) (subst (Between tries 0) (sym (join-other r counterTag credential apart t)) (unspent 0))
+      set-remain : (z : State) → whenActive z d .write ≡ true → Remain new (heldIn (joined (whenActive z d .rec) t))
+      set-remain Unformatted e = absurd (false≢true e)
+      set-remain Failed e = absurd (false≢true e)
+      set-remain (Active sector seq head) e = reset-remain (d .rec) (decided-rec _ _ _ d (set-decided (heldIn t) (roomFor counterTag credential t) credential new) e)
 
-    own-later : (current : ℕ) → Between tries 1 (heldIn (recordsIn (decidedTable (spendDecision (heldIn t) (roomFor counterTag credential t) credential current) log)))
-    own-later current = go (d .write) refl
-      where
-        d : Decision
-        d = spendDecision (heldIn t) (roomFor counterTag credential t) credential current
+      set-either : (z : State) → (heldIn (recordsIn (decidedTable (whenActive z d) log)) ≡ heldIn t) ⊎ Remain new (heldIn (recordsIn (decidedTable (whenActive z d) log)))
+      set-either z = go (whenActive z d .write) refl
+        where
+          go : (b : Bool) → whenActive z d .write ≡ b
+              → (heldIn (recordsIn (pick b (holding (joined (whenActive z d .rec) t)) (tableOf log))) ≡ heldIn t) ⊎ Remain new (heldIn (recordsIn (pick b (holding (joined (whenActive z d .rec) t)) (tableOf log))))
+          go true e = inr (set-remain z e)
+          go false e = inl (ap heldIn (sym (shown-records image log i)))
 
-        s : CounterState
-        s = startOf (heldIn t) current
+      -- nothing is written where the record that is held says so already
+      set-idle : d .write ≡ false → isDone (d .answer) ≡ true → Remain new (heldIn t)
+      unfolding setDecision startOf
+      set-idle = go (heldIn t .some && eqb (remainingOf s) new) refl
+        where
+          go : (b : Bool) → heldIn t .some && eqb (remainingOf s) new ≡ b
+              → pick b (give 0) (write (roomFor counterTag credential t) (counterRecord credential (resetOf s new)) 0) .write ≡ false
+              → isDone (pick b (give 0) (write (roomFor counterTag credential t) (counterRecord credential (resetOf s new)) 0) .answer) ≡ true → Remain new (heldIn t)
+          go true e w k =
+              let some-held = first (heldIn t .some) (eqb (remainingOf s) new) e in
+              (some-held, sym (ap (λ (b : Bool). remainingOf (pick b (counterIn (heldIn t .raw .body)) (freshOf new))) some-held) ∙ eqb-true (remainingOf s) new (second (heldIn t .some) (eqb (remainingOf s) new) e))
+          go false e w k =
+              by-test (λ (x : Decision). x .write ≡ false → isDone (x .answer) ≡ true → Remain new (heldIn t)) (roomFor counterTag credential t) _ _
+              (λ _ v. absurd (false≢true (sym v))) (λ _ _ v. absurd (false≢true v)) w k
 
-        go : (b : Bool) → d .write ≡ b → Between tries 1 (heldIn (recordsIn (pick b (holding (joined (d .rec) t)) (tableOf log))))
-        go true e =
-            let w = spend-writes credential current t e in
-            let one = failure-takes-one s (w .0) in
-            let all = start-tries current in
-            subst (λ (r : Raw). Between tries 1 (heldIn (joined r t))) (sym (w .1))
-            (record { left = remainingOf (oneMore s); remain = own-remain (oneMore s); none-back = omega arith; none-lost = omega arith })
-        go false e = subst (λ (u : List Raw). Between tries 1 (heldIn u)) (shown-records image log i) (unspent 1)
+      set-later : (z : State) → (whenActive z d .write ≡ false → isDone (whenActive z d .answer) ≡ true) → Remain new (heldIn (recordsIn (decidedTable (whenActive z d) log)))
+      set-later Unformatted e = absurd (false≢true (e refl))
+      set-later Failed e = absurd (false≢true (e refl))
+      set-later (Active sector seq head) e = go (d .write) refl
+        where
+          go : (b : Bool) → d .write ≡ b → Remain new (heldIn (recordsIn (pick b (holding (joined (d .rec) t)) (tableOf log))))
+          go true k = set-remain (Active sector seq head) k
+          go false k = subst (λ (u : List Raw). Remain new (heldIn u)) (shown-records image log i) (set-idle k (e k))
 
-    call-later : (c : Call) → sets credential c ≡ false → Between tries (begun credential c) (heldIn (recordsIn (decidedTable (decisionOf c t) log)))
-    call-later (put other new) apart = other-later _ (counterRecord other new) _ _ (put-decided (heldOf counterTag other t) (roomFor counterTag other t) other new) apart
-    call-later (put-value id new) apart = other-later _ (valueRecord id new) _ _ (value-decided (heldOf valueTag id t) (roomFor valueTag id t) id new (held-blank valueTag id t)) refl
-    call-later (put-anchor new) apart = other-later _ (record { tag = anchorTag; id = 0; body = anchorBody new }) _ _ (anchor-decided (heldOf anchorTag 0 t) (roomFor anchorTag 0 t) new) refl
-    call-later (format seeds count) apart = subst (λ (u : List Raw). Between tries 0 (heldIn u)) (shown-records image log i) (unspent 0)
-    call-later (spend other current) apart = go (eqb other credential) refl
-      where
-        go : (b : Bool) → eqb other credential ≡ b → Between tries (pick b 1 0) (heldIn (recordsIn (decidedTable (spendDecision (heldOf counterTag other t) (roomFor counterTag other t) other current) log)))
-        go true e =
-            subst (λ (x : ℕ). Between tries 1 (heldIn (recordsIn (decidedTable (spendDecision (heldOf counterTag x t) (roomFor counterTag x t) x current) log)))) (sym (eqb-true other credential e)) (own-later current)
-        go false e = other-later _ (counterRecord other (oneMore (startOf (heldOf counterTag other t) current))) _ _ (spend-decided (roomFor counterTag other t) other (startOf (heldOf counterTag other t) current)) e
-    call-later (set-tries other new) apart =
-        other-later _ (counterRecord other (resetOf (startOf (heldOf counterTag other t) new) new)) _ _ (set-decided (heldOf counterTag other t) (roomFor counterTag other t) other new) apart
-    call-later (advance-lamport latest) apart =
-        other-later _ (valueRecord lamport (seenOf (heldOf valueTag lamport t) latest + 1)) _ _ (advance-decided (heldOf valueTag lamport t) (roomFor valueTag lamport t) latest) refl
+    module _ (tries : ℕ) (has : Has credential tries log) where
+      -- only an Active log holds a record
+      held-active : (s : ℕ) × (seq : ℕ) × (head : ℕ) × (log .state ≡ Active s seq head)
+      unfolding heldOf holds
+      held-active = go (log .state) refl (i .agrees .found)
+        where
+          empty : t ≡ [] → ⊥
+          empty e = false≢true (ap (λ (u : List Raw). heldOf counterTag credential u .some) (sym e) ∙ has .0)
+
+          go : (z : State) → log .state ≡ z → Found z n image (log .«next_seq») t → (s : ℕ) × (seq : ℕ) × (head : ℕ) × (log .state ≡ Active s seq head)
+          go Unformatted e f = absurd (empty (f .0))
+          go Failed e f = absurd (empty (f .0))
+          go (Active s seq head) e f = (s, seq, head, e)
+
+      held-comes : (c : Call) → Typed c → (plan : Plan) → SafeCall n (Unmatched (appendsTo c image log plan) (recordOf c t)) (λ z. z ≡ seen log) (decidedTable (decisionOf c t) log) (outcomeOf c image log plan)
+      held-comes = let a = held-active in call-comes (a .0) (a .1) (a .2) (a .3)
+
+      -- the caller's number is not looked at
+      start-tries : (fresh : ℕ) → remainingOf (startOf (heldIn t) fresh) ≡ tries
+      unfolding startOf
+      start-tries fresh = ap (λ (b : Bool). remainingOf (pick b (counterIn (heldIn t .raw .body)) (freshOf fresh))) (has .0) ∙ has .1
+
+      -- ---- any other call leads to the tries from before, a spend to these or one fewer
+      unspent : (spends : ℕ) → Between tries spends (heldIn t)
+      unspent spends = record { left = tries; remain = has; none-back = omega arith; none-lost = omega arith }
+
+      other-later : (room : Bool) (r : Raw) (Q : Type 0) (d : Decision) → Decided room r Q d → hasKey counterTag credential r ≡ false → Between tries 0 (heldIn (recordsIn (decidedTable d log)))
+      other-later room r Q d made apart = by-decision (λ (u : List Raw). Between tries 0 (heldIn u)) room r Q d made (unspent 0) (subst (Between tries 0) (sym (join-other r counterTag credential apart t)) (unspent 0))
+
+      own-later : (current : ℕ) → Between tries 1 (heldIn (recordsIn (decidedTable (spendDecision (heldIn t) (roomFor counterTag credential t) credential current) log)))
+      own-later current = go (d .write) refl
+        where
+          d : Decision
+          d = spendDecision (heldIn t) (roomFor counterTag credential t) credential current
+
+          s : CounterState
+          s = startOf (heldIn t) current
+
+          go : (b : Bool) → d .write ≡ b → Between tries 1 (heldIn (recordsIn (pick b (holding (joined (d .rec) t)) (tableOf log))))
+          go true e =
+              let w = spend-writes credential current t e in
+              let one = failure-takes-one s (w .0) in
+              let all = start-tries current in
+              subst (λ (r : Raw). Between tries 1 (heldIn (joined r t))) (sym (w .1))
+              (record { left = remainingOf (oneMore s); remain = own-remain (oneMore s); none-back = omega arith; none-lost = omega arith })
+          go false e = subst (λ (u : List Raw). Between tries 1 (heldIn u)) (shown-records image log i) (unspent 1)
+
+      call-later : (c : Call) → sets credential c ≡ false → Between tries (begun credential c) (heldIn (recordsIn (decidedTable (decisionOf c t) log)))
+      call-later (put other new) apart = other-later _ (counterRecord other new) _ _ (put-decided (heldOf counterTag other t) (roomFor counterTag other t) other new) apart
+      call-later (put-value id new) apart = other-later _ (valueRecord id new) _ _ (value-decided (heldOf valueTag id t) (roomFor valueTag id t) id new (held-blank valueTag id t)) refl
+      call-later (put-anchor new) apart = other-later _ (record { tag = anchorTag; id = 0; body = anchorBody new }) _ _ (anchor-decided (heldOf anchorTag 0 t) (roomFor anchorTag 0 t) new) refl
+      call-later (format seeds count) apart = subst (λ (u : List Raw). Between tries 0 (heldIn u)) (shown-records image log i) (unspent 0)
+      call-later (spend other current) apart = go (eqb other credential) refl
+        where
+          go : (b : Bool) → eqb other credential ≡ b → Between tries (pick b 1 0) (heldIn (recordsIn (decidedTable (spendDecision (heldOf counterTag other t) (roomFor counterTag other t) other current) log)))
+          go true e =
+              subst (λ (x : ℕ). Between tries 1 (heldIn (recordsIn (decidedTable (spendDecision (heldOf counterTag x t) (roomFor counterTag x t) x current) log)))) (sym (eqb-true other credential e)) (own-later current)
+          go false e = other-later _ (counterRecord other (oneMore (startOf (heldOf counterTag other t) current))) _ _ (spend-decided (roomFor counterTag other t) other (startOf (heldOf counterTag other t) current)) e
+      call-later (set-tries other new) apart =
+          other-later _ (counterRecord other (resetOf (startOf (heldOf counterTag other t) new) new)) _ _ (set-decided (heldOf counterTag other t) (roomFor counterTag other t) other new) apart
+      call-later (advance-lamport latest) apart =
+          other-later _ (valueRecord lamport (seenOf (heldOf valueTag lamport t) latest + 1)) _ _ (advance-decided (heldOf valueTag lamport t) (roomFor valueTag lamport t) latest) refl
 
 -- ---- one call more
+module _ (w : World) (i : Agree w) (credential new : ℕ) (fits : credential < 256) (small : new < 256) (plan : Plan) where
+  abbrev m : Made
+  m = setting credential new plan
+
+  abbrev before : List Raw
+  before = recordsOf (w .log)
+
+  abbrev comes-to : OptRaw → Bool → Decision
+  comes-to held room = setDecision held room credential new
+
+  set-safe : SafeCall (sectorsIn (length (w .image))) (Unmatched (w .log .state) (recordOf (m .call) before)) (λ z. z ≡ seen (w .log))
+      (decidedTable (whenActive (w .log .state) (comes-to (heldOf counterTag credential before) (roomFor counterTag credential before))) (w .log)) (outcome m w)
+  unfolding setOf
+  set-safe =
+      keyed-decided (w .image) (w .log) i (isCredential credential) counterTag credential comes-to
+      (λ t. counterRecord credential (resetOf (startOf (heldOf counterTag credential t) new) new)) (set-sound credential new fits small) plan
+
+  pub set-keeps : KeepsSet w credential new plan
+  unfolding setOf
+  set-keeps = record {
+    either = λ lucky.
+        safe-found (w .image) (w .log) i (λ (u : List Raw). (heldOf counterTag credential u ≡ heldOf counterTag credential before) ⊎ Remain new (heldOf counterTag credential u)) _ _ _ (outcome m w) set-safe lucky (inl refl)
+        (set-either (w .image) (w .log) i credential new (w .log .state));
+    success = λ e.
+        safe-done (w .image) (w .log) i (λ (u : List Raw). Remain new (heldOf counterTag credential u)) _ _ _ (outcome m w) set-safe e
+        (set-later (w .image) (w .log) i credential new (w .log .state) (keyed-answered (w .image) (w .log) plan (isCredential credential) counterTag credential comes-to e));
+  }
+
 module _ (w : World) (i : Agree w) (credential tries : ℕ) (has : Has credential tries (w .log)) where
-  module _ (new : ℕ) (fits : credential < 256) (small : new < 256) (plan : Plan) where
-    abbrev m : Made
-    m = setting credential new plan
-
-    pub set-keeps : KeepsSet w credential tries new plan
-    set-keeps =
-        let safe = held-comes (w .image) (w .log) i credential tries has (set-tries credential new) (fits, small) plan in
-        let later = set-later (w .image) (w .log) i credential tries has new in
-        record {
-          either = λ lucky. safe-found (w .image) (w .log) i (λ (u : List Raw). Remain tries (heldOf counterTag credential u) ⊎ Remain new (heldOf counterTag credential u)) _ _ _ (outcome m w) safe lucky (inl has) (inr later);
-          success = λ e. safe-done (w .image) (w .log) i (λ (u : List Raw). Remain new (heldOf counterTag credential u)) _ _ _ (outcome m w) safe e later;
-        }
-
   module _ (m : Made) (typed : Typed (m .call)) (apart : sets credential (m .call) ≡ false) where
     call-on : outcome m w .flash .cut ≡ false → Finds credential tries (begun credential (m .call)) (outcome m w .log)
     call-on on =
@@ -298,21 +341,21 @@ played-between credential (m ∷ ms) w i typed lasts apart tries has =
     (played-between credential ms (afterwards (outcome m w)) agrees (typed .1) (lasts .1) (apart .1) (one .left) (one .remain))
 
 -- ---- in any session
-module _ (image : List ℕ) (bytes : T (areBytes image)) (ms : List Made) (typed : AllTyped ms) (lasts : Lasts ms (opened image)) (credential tries : ℕ) where
+module _ (image : List ℕ) (bytes : T (areBytes image)) (ms : List Made) (typed : AllTyped ms) (lasts : Lasts ms (opened image)) (credential : ℕ) where
   abbrev now : World
   now = played ms (opened image)
 
   agrees : Agree now
   agrees = played-agrees ms (opened image) (open-inv image bytes) typed lasts
 
-  pub pulled-set : Has credential tries (now .log) → (new : ℕ) → credential < 256 → new < 256 → (plan : Plan) → KeepsSet now credential tries new plan
-  pulled-set has = set-keeps now agrees credential tries has
+  pub pulled-set : (new : ℕ) → credential < 256 → new < 256 → (plan : Plan) → KeepsSet now credential new plan
+  pulled-set = set-keeps now agrees credential
 
-  pub pulled-other : Has credential tries (now .log) → (m : Made) → Typed (m .call) → LeavesTries now m credential tries
-  pulled-other has = other-leaves now agrees credential tries has
+  pub pulled-other : (tries : ℕ) → Has credential tries (now .log) → (m : Made) → Typed (m .call) → LeavesTries now m credential tries
+  pulled-other = other-leaves now agrees credential
 
-  pub pulled-session : Has credential tries (openOf image .log) → NoneSets credential ms → KeepsCount image ms credential tries
-  pulled-session has apart = record {
+  pub pulled-session : (tries : ℕ) → Has credential tries (openOf image .log) → NoneSets credential ms → KeepsCount image ms credential tries
+  pulled-session tries has apart = record {
     powered = subst (λ (u : List Raw). Between tries (begunIn credential ms) (heldOf counterTag credential u)) (sym (reopened (now .image) (now .log) agrees)) held;
     pulled = λ m fits kept lucky. between-on tries (begunIn credential ms) (begun credential (m .call)) _ _ held (call-found now agrees credential (held .left) (held .remain) m fits kept lucky);
   }

@@ -38,7 +38,7 @@ use Rattle.demands.specs.Shown.{seenBy, Table, blank, broken, holding, t
 use Rattle.demands.proofs.Invariant.{Found, Inv, inv-open, open-inv}
 use Rattle.scan.specs.Opening.{openOf}
 use Rattle.performing.specs.Outcomes.{Outcome, flashOf, refused, entered}
-use Rattle.performing.specs.Performing.{appended, performed}
+use Rattle.performing.specs.Performing.{appended, performed, decided}
 use Rattle.demands.specs.Chance.{Unmatched}
 use Rattle.demands.specs.Sessions.{World, opened, Made, played, AllTyped, Lasts}
 use Rattle.demands.specs.PulledStick.{triesIn, KeepsTries}
@@ -204,6 +204,20 @@ module _ (credential current : ℕ) where
         go true k = let w = spend-writes t₀ k in ap (λ (r : Raw). triesOf (joined r t₀) + 1) (w .1) ∙ spent-tries t₀ h
         go false k = absurd (false≢true (sym (spend-refuses t₀ h k) ∙ e k))
 
+-- ---- an answer 0 without a write was the decision's
+module _ (image : List ℕ) (log : Log) (plan : Plan) (known : Bool) (tag id : ℕ) (comes-to : OptRaw → Bool → Decision) where
+  abbrev settled : Decision
+  settled = whenActive (log .state) (comes-to (heldOf tag id (recordsOf log)) (roomFor tag id (recordsOf log)))
+
+  pub keyed-answered : isDone (entered image log plan known (decided tag id comes-to) .answer) ≡ true → settled .write ≡ false → isDone (settled .answer) ≡ true
+  unfolding entered performed
+  keyed-answered e k = go (isDone (entryAnswer (sectorsIn (length image)) log known)) e refl
+    where
+      go : (b : Bool) → isDone (pick b (performed settled (sectorsIn (length image)) log (flashOf image plan)) (refused (entryAnswer (sectorsIn (length image)) log known) log (flashOf image plan)) .answer) ≡ true
+          → isDone (entryAnswer (sectorsIn (length image)) log known) ≡ b → isDone (settled .answer) ≡ true
+      go true e z = sym (ap (λ (x : Bool). isDone (pick x (appended (log .state) (sectorsIn (length image)) (settled .rec) (settled .value) log (flashOf image plan)) (record { answer = settled .answer; value = settled .value; log = log; flash = flashOf image plan }) .answer)) k) ∙ e
+      go false e z = absurd (false≢true (sym z ∙ e))
+
 -- ---- the call
 module _ (w : World) (i : Inv (w .image) (w .log)) (credential current : ℕ) (fits : credential < 256) (small : current < 256) (plan : Plan) where
   abbrev log : Log
@@ -223,16 +237,6 @@ module _ (w : World) (i : Inv (w .image) (w .log)) (credential current : ℕ) (f
   safe =
       keyed-decided (w .image) log i (isCredential credential) counterTag credential (λ (held : OptRaw) (room : Bool). spendDecision held room credential current)
       (λ t. counterRecord credential (oneMore (startOf (heldOf counterTag credential t) current))) (spend-sound credential current fits small) plan
-
-  -- an answer 0 without a write was the decision's
-  answered : isDone (o .answer) ≡ true → decided-on .write ≡ false → isDone (decided-on .answer) ≡ true
-  unfolding spendOf entered performed
-  answered e k = go (isDone (entryAnswer (sectorsIn (length (w .image))) log (isCredential credential))) e refl
-    where
-      go : (b : Bool) → isDone (pick b (performed decided-on (sectorsIn (length (w .image))) log (flashOf (w .image) plan)) (refused (entryAnswer (sectorsIn (length (w .image))) log (isCredential credential)) log (flashOf (w .image) plan)) .answer) ≡ true
-          → isDone (entryAnswer (sectorsIn (length (w .image))) log (isCredential credential)) ≡ b → isDone (decided-on .answer) ≡ true
-      go true e z = sym (ap (λ (x : Bool). isDone (pick x (appended (log .state) (sectorsIn (length (w .image))) (decided-on .rec) (decided-on .value) log (flashOf (w .image) plan)) (record { answer = decided-on .answer; value = decided-on .value; log = log; flash = flashOf (w .image) plan }) .answer)) k) ∙ e
-      go false e z = absurd (false≢true (sym z ∙ e))
 
   module _ (x : Log) (j : Inv (o .flash .image) x) where
     abbrev again : Log
@@ -255,12 +259,13 @@ module _ (w : World) (i : Inv (w .image) (w .log)) (credential current : ℕ) (f
         go (inr k) = inr (ap (λ (m : ℕ). m + 1) (found-tries (decidedTable decided-on log) e) ∙ k)
 
   pub spend-keeps : KeepsTries w credential current plan
+  unfolding spendOf
   spend-keeps = go safe
     where
       go : SafeCall (sectorsIn (length (w .image))) (Unmatched (log .state) r) (λ z. z ≡ seen log) (decidedTable decided-on log) o → KeepsTries w credential current plan
       go (lasted on z j (inl d)) = record {
         either = λ _. later-either (o .log) j (d .1);
-        taken = λ e h. ap (λ (m : ℕ). m + 1) (found-tries (o .log) j (decidedTable decided-on log) (d .1)) ∙ taken-tries credential current log (log .state) h (answered e);
+        taken = λ e h. ap (λ (m : ℕ). m + 1) (found-tries (o .log) j (decidedTable decided-on log) (d .1)) ∙ taken-tries credential current log (log .state) h (keyed-answered (w .image) log plan (isCredential credential) counterTag credential (λ (held : OptRaw) (room : Bool). spendDecision held room credential current) e);
       }
       go (lasted on z j (inr d)) = record {
         either = λ _. inl (before-tries (o .log) j (d .1));

@@ -1,7 +1,7 @@
--- Demand 1: every refusal and its order, and that nothing is changed by one.
+-- Demand 1: every refusal and its order, and that nothing is changed by one: of the calls that can write, of those that only read the log, of opening.
 use mathlib.Core.Path.{_≡_}
 use mathlib.Core.Bool.{Bool, true, false}
-use mathlib.Core.List.{List}
+use mathlib.Core.List.{List, []}
 use Prim.Native.Nat.{ℕ}
 use lib.ListN.{length}
 use Rattle.basics.specs.Choice.{pick}
@@ -14,10 +14,24 @@ use Rattle.flash.specs.Image.{sectorsIn}
 use Rattle.records.specs.declared.State.{State}
 use Rattle.records.specs.declared.State.the-variants.{Unformatted, Failed, Active}
 use Rattle.records.specs.declared.Log.{Log}
+use Rattle.records.specs.Logs.{logOf}
+use Rattle.scan.specs.declared.Opened.{Opened}
+use Rattle.scan.specs.Opening.{openOf}
 use Rattle.fitting.specs.Fitting.{logFits}
+use Rattle.reading.specs.declared.Counter.{Counter}
+use Rattle.reading.specs.declared.Counter.the-variants as counter
+use Rattle.reading.specs.declared.Number.{Number}
+use Rattle.reading.specs.declared.Number.the-variants as number
+use Rattle.reading.specs.declared.Anchored.{Anchored}
+use Rattle.reading.specs.declared.Anchored.the-variants as anchored
+use Rattle.reading.specs.declared.Told.{Told}
+use Rattle.reading.specs.Reads.{getOf, valueOf, anchorOf, lamportOf, needsMigrationOf, refusedTold}
 use Rattle.seeding.specs.Seeds.{seedsKnown}
 use Rattle.log.specs.Calls.{isFirst}
 use Rattle.performing.specs.Outcomes.{flashOf, refused}
+use Rattle.tries.specs.declared.Left.{Left}
+use Rattle.tries.specs.declared.Left.the-variants as left
+use Rattle.tries.specs.Tries.{remainingLeft, loadOf}
 use Rattle.demands.specs.Calls.{Call, put, put-value, put-anchor, format, spend, set-tries, advance-lamport, outcomeOf}
 
 -- 1 to 5, 8 and 9 leave "all unchanged"
@@ -67,3 +81,66 @@ pub record Refuses (c : Call) (image : List ℕ) (log : Log) (plan : Plan) : Typ
       → outcomeOf c image log plan ≡ refused (stateAnswer c (log .state)) log (flashOf image plan)
   -- log, plan, image and wear figures as they came, and no value
   pub unchanged : leavesAll (outcomeOf c image log plan .answer) ≡ true → outcomeOf c image log plan ≡ refused (outcomeOf c image log plan .answer) log (flashOf image plan)
+
+-- ---- the calls that only read the log: they take no image and no plan and hand back no log, so there is nothing that a refusal could change
+pub data Asked : Type 0 where
+  get get-value remaining : ℕ → Asked
+  anchor lamport needs-migration : Asked
+  load : ℕ → Bool → ℕ → Asked
+
+abbrev pub Reply : Asked → Type 0
+Reply (get credential) = Counter
+Reply (get-value id) = Number
+Reply (remaining credential) = Left
+Reply anchor = Anchored
+Reply lamport = Told
+Reply needs-migration = Told
+Reply (load credential exists fresh) = Told
+
+abbrev pub replyOf : (q : Asked) → Log → Reply q
+replyOf (get credential) log = getOf log credential
+replyOf (get-value id) log = valueOf log id
+replyOf (remaining credential) log = remainingLeft log credential
+replyOf anchor log = anchorOf log
+replyOf lamport log = lamportOf log
+replyOf needs-migration log = needsMigrationOf log
+replyOf (load credential exists fresh) log = loadOf log credential exists fresh
+
+-- "Beside a refusal any value asked for is 0 or none."
+abbrev pub turnedAway : (q : Asked) → Answer → Reply q
+turnedAway (get credential) a = counter.Refused a
+turnedAway (get-value id) a = number.Refused a
+turnedAway (remaining credential) a = left.Refused a
+turnedAway anchor a = anchored.Refused a
+turnedAway lamport a = refusedTold a
+turnedAway needs-migration a = refusedTold a
+turnedAway (load credential exists fresh) a = refusedTold a
+
+abbrev pub knownTo : Asked → Bool
+knownTo (get credential) = isCredential credential
+knownTo (get-value id) = isValue id
+knownTo (remaining credential) = isCredential credential
+knownTo anchor = true
+knownTo lamport = true
+knownTo needs-migration = true
+knownTo (load credential exists fresh) = isCredential credential
+
+-- "anchor on an Unformatted log answers none", needs_migration says whether it is one, load "gives 0 where the log would answer 4 or 5"
+abbrev pub stateReply : Asked → State → Answer
+stateReply (get credential) z = byState NotFormatted ReadError Done z
+stateReply (get-value id) z = byState NotFormatted ReadError Done z
+stateReply (remaining credential) z = byState NotFormatted ReadError Done z
+stateReply anchor z = byState Done ReadError Done z
+stateReply lamport z = byState NotFormatted ReadError Done z
+stateReply needs-migration z = Done
+stateReply (load credential exists fresh) z = Done
+
+-- "Calls that only read the log take no image; for them the sector must be below 16."
+pub record RefusesAsked (q : Asked) (log : Log) : Type 0 where
+  pub bad-log : logFits 16 log ≡ false → replyOf q log ≡ turnedAway q BadLog
+  pub bad-id : logFits 16 log ≡ true → knownTo q ≡ false → replyOf q log ≡ turnedAway q BadId
+  pub not-ready : logFits 16 log ≡ true → knownTo q ≡ true → isDone (stateReply q (log .state)) ≡ false → replyOf q log ≡ turnedAway q (stateReply q (log .state))
+
+-- ---- opening: "1 BadImage: open gives a Failed log with no records and next_seq 1"
+abbrev pub RefusesImage : List ℕ → Type 0
+RefusesImage image = sectorsIn (length image) ≡ 0 → openOf image ≡ record { answer = BadImage; log = logOf Failed 1 [] }

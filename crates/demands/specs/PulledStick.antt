@@ -50,15 +50,20 @@ pub record KeepsTries (w : World) (credential current : ℕ) (plan : Plan) : Typ
 abbrev pub Remain : ℕ → OptRaw → Type 0
 Remain tries held = (held .some ≡ true) × (remainingOf (counterIn (held .raw .body)) ≡ tries)
 
+-- the counter that a log holds of a credential, if any
+abbrev pub counterHeld : ℕ → Log → OptRaw
+counterHeld credential log = heldOf counterTag credential (recordsOf log)
+
 abbrev pub Has : ℕ → ℕ → Log → Type 0
-Has credential tries log = Remain tries (heldOf counterTag credential (recordsOf log))
+Has credential tries log = Remain tries (counterHeld credential log)
 
 abbrev pub setting : ℕ → ℕ → Plan → Made
 setting credential new plan = record { call = set-tries credential new; plan = plan }
 
-pub record KeepsSet (w : World) (credential tries new : ℕ) (plan : Plan) : Type 0 where
-  -- pulled or not, the tries from before or the new number
-  pub either : Lucky w (setting credential new plan) → Has credential tries (woken w (setting credential new plan)) ⊎ Has credential new (woken w (setting credential new plan))
+pub record KeepsSet (w : World) (credential new : ℕ) (plan : Plan) : Type 0 where
+  -- pulled or not, the counter from before, none where there was none, or one by which the new number of tries remains
+  pub either : Lucky w (setting credential new plan)
+      → (counterHeld credential (woken w (setting credential new plan)) ≡ counterHeld credential (w .log)) ⊎ Has credential new (woken w (setting credential new plan))
   -- the latter if it answered 0
   pub success : isDone (outcome (setting credential new plan) w .answer) ≡ true → Has credential new (woken w (setting credential new plan))
 
@@ -106,7 +111,7 @@ pub record Between (tries spends : ℕ) (held : OptRaw) : Type 0 where
   pub none-lost : tries ≤ left + spends
 
 abbrev pub Finds : ℕ → ℕ → ℕ → Log → Type 0
-Finds credential tries spends log = Between tries spends (heldOf counterTag credential (recordsOf log))
+Finds credential tries spends log = Between tries spends (counterHeld credential log)
 
 -- a session that opened a log with so many tries, while power lasts and at the call that is cut
 pub record KeepsCount (image : List ℕ) (ms : List Made) (credential tries : ℕ) : Type 0 where
