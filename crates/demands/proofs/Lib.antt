@@ -20,8 +20,6 @@ pub mod Calls
 pub mod Demand3
 pub mod Spends
 pub mod PulledStick
-pub mod Witness
-pub mod Matched
 -- How any call ends on any image, log and plan, and what follows from that.
 pub mod Tracing
 pub mod Courses

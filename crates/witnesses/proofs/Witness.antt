@@ -1,0 +1,103 @@
+-- The premises of the demands can be met: through refusals, and cut in the middle of an append, of an erase, of a record and of a header.
+use mathlib.Core.Path.{_≡_, refl, sym, subst, _∙_}
+use mathlib.Core.Bool.{true, false, false≢true}
+use mathlib.Core.List.{List, []}
+use mathlib.Core.Logic.{_⊎_}
+use Prim.Native.Nat.{ℕ, zero, suc, _+_, _≤_}
+use native.Mathlib.Omega.{arith}
+use lib.Dec.{T, eqb}
+use lib.ListN.{take}
+use lib.Pow.{areBytes}
+use borrow.Author.Tests.{eq-eqb}
+use Rattle.basics.specs.Little.{leBytes, leNumber}
+use Rattle.crc.specs.Register.{turn, turns, eat, feed, finished, crc32Of}
+use Rattle.codec.specs.Slots.{headerSlot, crcUnder, slotOf}
+use Rattle.flash.specs.declared.Plan.{Plan}
+use Rattle.records.specs.declared.Log.{Log}
+use Rattle.records.specs.Table.{placeOf, holds}
+use Rattle.reading.specs.Entering.{heldOf}
+use Rattle.tries.specs.Tries.{startOf}
+use Rattle.demands.specs.Chance.{cutAt, ChanceMatch}
+use Rattle.demands.specs.Calls.{NoChance}
+use Rattle.demands.specs.Sessions.{opened, played, AllTyped, Lasts}
+use Rattle.demands.specs.Demand3.{FindsAgain}
+use Rattle.demands.specs.PulledStick.{woken, Lucky, triesIn, NoneSets, KeepsCount}
+use Rattle.demands.proofs.Demand3.{demand-3-powered}
+use Rattle.demands.proofs.Spends.{pulled-stick}
+use Rattle.demands.proofs.PulledStick.{pulled-session}
+use Rattle.witnesses.specs.Sticks.{pin, newStick, fullStick, spent, spending, refusals}
+use Rattle.witnesses.proofs.Computed.{opens, computed}
+
+-- ---- the sticks are bytes, and the calls have their types
+record Bytes : Type 0 where
+  new : T (areBytes newStick)
+  full : T (areBytes fullStick)
+
+bytes : Bytes
+unfolding newStick fullStick headerSlot slotOf crcUnder crc32Of feed eat turns turn finished leBytes
+bytes = record { new = tt; full = tt }
+
+typed : AllTyped refusals
+unfolding refusals AllTyped
+typed = ((omega arith, omega arith), ((omega arith, omega arith), (omega arith, tt)))
+
+none-made : (w : List ℕ) → Lasts [] (opened w)
+unfolding Lasts
+none-made w = tt
+
+none-typed : AllTyped []
+unfolding AllTyped
+none-typed = tt
+
+-- ---- power lasts through refusals: what is held is found, and of two spends that were begun at most two tries are gone
+none-sets : NoneSets pin refusals
+unfolding refusals NoneSets
+none-sets = (refl, (refl, (refl, tt)))
+
+pub keeps-count : KeepsCount newStick refusals pin 3
+keeps-count = pulled-session newStick (bytes .new) refusals typed (computed .lasts) pin 3 (computed .holds) none-sets
+
+pub finds-again : FindsAgain (played refusals (opened newStick))
+finds-again = demand-3-powered newStick (bytes .new) refusals typed (computed .lasts)
+
+-- ---- no chance match
+-- of the record that the new stick's first spend writes, under the sector's number 1
+clash : (k : ℕ) → 1 ≤ k → k ≤ 11 → eqb (crcUnder 1 (take 12 (cutAt k (slotOf 1 spent)))) 0xFFFF_FFFF ≡ false
+unfolding slotOf crcUnder crc32Of feed eat turns turn finished leBytes
+clash zero low high = absurd (omega arith)
+clash (suc zero) low high = refl
+clash (suc (suc zero)) low high = refl
+clash (suc (suc (suc zero))) low high = refl
+clash (suc (suc (suc (suc zero)))) low high = refl
+clash (suc (suc (suc (suc (suc zero))))) low high = refl
+clash (suc (suc (suc (suc (suc (suc zero)))))) low high = refl
+clash (suc (suc (suc (suc (suc (suc (suc zero))))))) low high = refl
+clash (suc (suc (suc (suc (suc (suc (suc (suc zero)))))))) low high = refl
+clash (suc (suc (suc (suc (suc (suc (suc (suc (suc zero))))))))) low high = refl
+clash (suc (suc (suc (suc (suc (suc (suc (suc (suc (suc zero)))))))))) low high = refl
+clash (suc (suc (suc (suc (suc (suc (suc (suc (suc (suc (suc zero))))))))))) low high = refl
+clash (suc (suc (suc (suc (suc (suc (suc (suc (suc (suc (suc (suc k)))))))))))) low high = absurd (omega arith)
+
+unmatched : ChanceMatch 1 (slotOf 1 spent) → ⊥
+unmatched m = false≢true (sym (clash (m .k) (m .low) (m .high)) ∙ eq-eqb (crcUnder 1 (take 12 (cutAt (m .k) (slotOf 1 spent)))) 0xFFFF_FFFF (m .matches))
+
+new-lucky : (plan : Plan) → Lucky (opened newStick) (spending plan)
+unfolding heldOf holds placeOf startOf leNumber leBytes
+new-lucky plan _ = subst (λ (l : Log). NoChance (spending plan .call) newStick l plan) (sym (opens .new)) (λ h low high m e. unmatched m)
+
+-- a full sector has no slot to append to
+full-lucky : (plan : Plan) → Lucky (opened fullStick) (spending plan)
+full-lucky plan _ = subst (λ (l : Log). NoChance (spending plan .call) fullStick l plan) (sym (opens .full)) (λ h low high m e. omega (arith, low, high))
+
+-- ---- so the statements speak of these sticks, wherever a spend is cut: each wakes with three tries or two
+module _ (plan : Plan) where
+  abbrev KeepsOrTakes : List ℕ → Type 0
+  KeepsOrTakes stick = (triesIn pin 3 (woken (opened stick) (spending plan)) ≡ triesIn pin 3 (opened stick .log)) ⊎ (triesIn pin 3 (woken (opened stick) (spending plan)) + 1 ≡ triesIn pin 3 (opened stick .log))
+
+  pub new-wakes : KeepsOrTakes newStick
+  unfolding played
+  new-wakes = pulled-stick newStick (bytes .new) [] none-typed (none-made newStick) pin 3 (omega arith) (omega arith) plan .either (new-lucky plan)
+
+  pub full-wakes : KeepsOrTakes fullStick
+  unfolding played
+  full-wakes = pulled-stick fullStick (bytes .full) [] none-typed (none-made fullStick) pin 3 (omega arith) (omega arith) plan .either (full-lucky plan)

@@ -1,0 +1,42 @@
+-- What the definitions come to on those sticks, computed.
+use mathlib.Core.Path.{_≡_}
+use mathlib.Core.Bool.{true}
+use mathlib.Core.List.{List, [], _∷_}
+use Prim.Native.Nat.{ℕ}
+use Rattle.basics.specs.Answers.{numberOf}
+use Rattle.demands.specs.Healthy.{healthy}
+use Rattle.demands.specs.Sessions.{World, opened, Made, outcome, afterwards, Lasts}
+use Rattle.demands.specs.PulledStick.{triesIn, Has, woken}
+use Rattle.witnesses.specs.Sticks.{pin, pulledAfter, blankStick, newStick, fullStick, unluckyStick, formatting, spending, refusals}
+
+-- the numbers that a session's calls answer
+unfoldable pub numbers : List Made → World → List ℕ
+numbers [] w = []
+numbers (m ∷ ms) w = numberOf (outcome m w .answer) ∷ numbers ms (afterwards (outcome m w))
+
+-- a call that is cut on a stick that was just opened, and the tries that are found afterwards
+pub record Pulled (image : List ℕ) (m : Made) (tries : ℕ) : Type 0 where
+  pub cut : outcome m (opened image) .flash .cut ≡ true
+  pub found : triesIn pin 3 (woken (opened image) m) ≡ tries
+
+pub record Computed : Type 0 where
+  -- a format makes the new stick, which opens with three tries
+  pub formats : outcome (formatting healthy) (opened blankStick) .flash .image ≡ newStick
+  pub holds : Has pin 3 (opened newStick .log)
+  -- power lasts through a session in which every call meets refusals: the first spend answers 0, the second 6, the Lamport number 0
+  pub lasts : Lasts refusals (opened newStick)
+  pub answers : numbers refusals (opened newStick) ≡ 0 ∷ 6 ∷ 0 ∷ []
+  -- a spend that is cut in the middle of an append
+  pub in-append : Pulled newStick (spending (pulledAfter 5)) 3
+  -- a spend on a full sector, cut in the middle of the other sector's erase, of its record, and of its header
+  pub in-erase : Pulled fullStick (spending (pulledAfter 100)) 3
+  pub in-record : Pulled fullStick (spending (pulledAfter 4103)) 3
+  pub in-header : Pulled fullStick (spending (pulledAfter 4117)) 3
+  -- and one byte before its end: the header's last byte is missing
+  pub at-last : Pulled fullStick (spending (pulledAfter 4127)) 3
+  -- with power for all of it one try is taken
+  pub taken : triesIn pin 3 (outcome (spending (pulledAfter 4128)) (opened fullStick) .log) ≡ 2
+  -- a spend that is cut just where its slot matches by chance: three tries were held, two should be left
+  pub by-chance : Pulled unluckyStick (spending (pulledAfter 8)) 0
+  pub before : triesIn pin 3 (opened unluckyStick .log) ≡ 3
+  pub after : triesIn pin 3 (outcome (spending healthy) (opened unluckyStick) .log) ≡ 2

@@ -1,0 +1,82 @@
+-- Concrete sticks, and the calls that are made on them.
+use mathlib.Core.Bool.{true, false}
+use mathlib.Core.List.{List, [], _∷_, _++_}
+use Prim.Native.Nat.{ℕ, _+_}
+use lib.ListN.{replicate}
+use Rattle.ids.specs.declared.CounterState.{CounterState}
+use Rattle.codec.specs.declared.Raw.{Raw}
+use Rattle.codec.specs.Slots.{headerSlot, slotOf}
+use Rattle.bodies.specs.Bodies.{counterRecord}
+use Rattle.flash.specs.declared.Plan.{Plan}
+use Rattle.flash.specs.Image.{withSlot}
+use Rattle.records.specs.declared.State.the-variants.{Active}
+use Rattle.records.specs.declared.Log.{Log}
+use Rattle.records.specs.Logs.{logOf}
+use Rattle.demands.specs.Chance.{cutAt}
+use Rattle.demands.specs.Calls.{Call, format, spend, advance-lamport}
+use Rattle.demands.specs.Sessions.{Made}
+
+-- ---- plans
+abbrev pub refusing : ℕ → Plan
+refusing programs = record { limited = false; units = 0; «refuse_erase» = false; «refuse_programs» = programs }
+
+abbrev pub pulledAfter : ℕ → Plan
+pulledAfter units = record { limited = true; units = units; «refuse_erase» = false; «refuse_programs» = 0 }
+
+abbrev pub made : Call → Plan → Made
+made call plan = record { call = call; plan = plan }
+
+-- ---- sticks
+-- the user PIN with three tries
+abbrev pub pin : ℕ
+pin = 1
+
+abbrev pub three : CounterState
+three = record { total = 0; «at_reset» = 0; allowance = 3 }
+
+-- its record, and the one after a spend
+abbrev pub unspent : Raw
+unspent = counterRecord pin three
+
+abbrev pub spent : Raw
+spent = counterRecord pin (record { total = 1; «at_reset» = 0; allowance = 3 })
+
+-- a sector with this number, the PIN's counter, and erased bytes behind it
+abbrev sector : ℕ → ℕ → List ℕ
+sector seq erased = headerSlot seq ++ (slotOf seq unspent ++ replicate erased 0xFF)
+
+unfoldable pub blankStick : List ℕ
+blankStick = replicate 4096 0xFF
+
+unfoldable pub newStick : List ℕ
+newStick = sector 1 4064
+
+-- two sectors: the last slot of the first is used, if only by zeros, and the second is erased
+unfoldable pub fullStick : List ℕ
+fullStick = sector 1 4048 ++ (replicate 16 0 ++ replicate 4096 0xFF)
+
+-- under this number of a sector the first spend, cut after eight bytes, carries a matching checksum by chance
+abbrev pub unlucky : ℕ
+unlucky = 3525023928
+
+unfoldable pub unluckyStick : List ℕ
+unluckyStick = sector unlucky 4064
+
+-- a log with one record: the first sector under this number is active, and the next number is one more
+abbrev pub logWith : ℕ → ℕ → Raw → Log
+logWith seq head r = logOf (Active 0 seq head) (seq + 1) (r ∷ [])
+
+-- a stick whose slot k of sector s was cut after j bytes
+abbrev pub torn : ℕ → ℕ → ℕ → List ℕ → List ℕ → List ℕ
+torn s k j slot image = withSlot s k (cutAt j slot) image
+
+-- ---- calls
+abbrev pub formatting : Plan → Made
+formatting plan = made (format (record { credential = pin; state = three } ∷ []) 1) plan
+
+abbrev pub spending : Plan → Made
+spending plan = made (spend pin 3) plan
+
+-- a spend in the third slot that it tries, one that is refused every slot, and a Lamport number in its second
+unfoldable pub refusals : List Made
+refusals = spending (refusing 2) ∷ spending (refusing 3) ∷ made (advance-lamport 7) (refusing 1) ∷ []
