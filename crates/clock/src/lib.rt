@@ -18,7 +18,7 @@ const LAMPORT_MAX: u64 = 18_446_744_073_709_551_615;
 pub fn lamport(log: Log) -> Told
     ensures { λ r. ⌜ r ≡ lamportOf log ⌝ }
 {
-    reading::lamport(log)
+    asking::lamport(log)
 }
 
 // The larger of the number held and the one seen.

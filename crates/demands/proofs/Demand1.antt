@@ -29,7 +29,8 @@ use Rattle.reading.specs.Entering.{entryAnswer, heldOf, roomFor}
 use Rattle.reading.specs.declared.Counter.the-variants as counter
 use Rattle.reading.specs.declared.Number.the-variants as number
 use Rattle.reading.specs.declared.Anchored.the-variants as anchored
-use Rattle.reading.specs.Reads.{readBy, counterBy, getOf, numberBy, valueOf, anchorBy, anchorOf, told, refusedTold, lamportBy, migrationBy, needsMigrationOf}
+use Rattle.reading.proofs.Entering.{answer-no-image, answer-bad-log, answer-bad-id, answer-done, turned-away, taken-in}
+use Rattle.reading.specs.Reads.{counterBy, getOf, numberBy, valueOf, anchorBy, anchorOf, told, refusedTold, lamportBy, migrationBy, needsMigrationOf}
 use Rattle.performing.specs.Outcomes.{Outcome, flashOf, refused, entered}
 use Rattle.ids.specs.declared.Anchor.{Anchor}
 use Rattle.ids.specs.Ids.{counterTag, valueTag, anchorTag, lamport as lamportId, isCredential, isValue}
@@ -105,24 +106,6 @@ append-answers n s seq head next r t f =
     (λ _. commit-answers n n s (after n s) t WriteError (Active s seq (triesFrom 3 s head (slotOf seq r) WriteError f .head)) next (triesFrom 3 s head (slotOf seq r) WriteError f .flash) refl)
     (λ _. tries-answers 3 s head (slotOf seq r) WriteError f refl)
 
--- ---- the tests in their order
-module _ (n : ℕ) (log : Log) (known : Bool) where
-  no-image : n ≡ 0 → entryAnswer n log known ≡ BadImage
-  unfolding entryAnswer
-  no-image e = rw (eq-eqb n 0 e)
-
-  bad-log : (n ≡ 0 → ⊥) → logFits n log ≡ false → entryAnswer n log known ≡ BadLog
-  unfolding entryAnswer
-  bad-log e k = rw (ne-eqb n 0 e, k)
-
-  bad-id : (n ≡ 0 → ⊥) → logFits n log ≡ true → known ≡ false → entryAnswer n log known ≡ BadId
-  unfolding entryAnswer
-  bad-id e k z = rw (ne-eqb n 0 e, k, z)
-
-  let-in : (n ≡ 0 → ⊥) → logFits n log ≡ true → known ≡ true → entryAnswer n log known ≡ Done
-  unfolding entryAnswer
-  let-in e k z = rw (ne-eqb n 0 e, k, z)
-
 -- ---- the calls that can write
 module _ (image : List ℕ) (log : Log) (plan : Plan) where
   abbrev n : ℕ
@@ -156,7 +139,7 @@ module _ (image : List ℕ) (log : Log) (plan : Plan) where
   module _ (some : n ≡ 0 → ⊥) (fits : logFits n log ≡ true) where
     pub entered-on : (known : Bool) (call : ℕ → Log → Flash → Outcome) → known ≡ true → entered image log plan known call ≡ call n log f
     unfolding entered
-    entered-on known call k = ap (λ (x : Answer). pick (isDone x) (call n log f) (refused x log f)) (let-in n log known some fits k)
+    entered-on known call k = ap (λ (x : Answer). pick (isDone x) (call n log f) (refused x log f)) (answer-done n log known some fits k)
 
     inactive : (d : Decision) (z : State) → isDone (byState NotFormatted ReadError Done z) ≡ false → performed (whenActive z d) n log f ≡ refused (byState NotFormatted ReadError Done z) log f
     unfolding performed
@@ -196,9 +179,9 @@ module _ (image : List ℕ) (log : Log) (plan : Plan) where
 
   pub demand-1 : (c : Call) → Refuses c image log plan
   demand-1 c = record {
-    no-image = λ e. call-refuses c BadImage (no-image n log (knownIn c) e) refl;
-    bad-log = λ e k. call-refuses c BadLog (bad-log n log (knownIn c) e k) refl;
-    bad-id = λ e k z. call-refuses c BadId (bad-id n log (knownIn c) e k z) refl;
+    no-image = λ e. call-refuses c BadImage (answer-no-image n log (knownIn c) e) refl;
+    bad-log = λ e k. call-refuses c BadLog (answer-bad-log n log (knownIn c) e k) refl;
+    bad-id = λ e k z. call-refuses c BadId (answer-bad-id n log (knownIn c) e k z) refl;
     not-ready = λ e k. call-not-ready e k c;
     unchanged = course-unchanged (outcomeOf c image log plan) (call-course image log plan c);
   }
@@ -208,25 +191,17 @@ module _ (log : Log) where
   some-sectors : _≡_ {A = ℕ} 16 0 → ⊥
   some-sectors e = false≢true (ap (λ (x : ℕ). eqb x 0) e)
 
-  module _ {A : Type 0} (by : State → OptRaw → A) (refused : Answer → A) (known : Bool) (tag id : ℕ) where
-    read-refused : (a : Answer) → entryAnswer 16 log known ≡ a → isDone a ≡ false → readBy by refused log known tag id ≡ refused a
-    read-refused a e d =
-        ap (λ (x : Answer). pick (isDone x) (by (log .state) (heldOf tag id (recordsOf log))) (refused x)) e ∙ ap (λ (b : Bool). pick b (by (log .state) (heldOf tag id (recordsOf log))) (refused a)) d
-
-    read-on : entryAnswer 16 log known ≡ Done → readBy by refused log known tag id ≡ by (log .state) (heldOf tag id (recordsOf log))
-    read-on e = ap (λ (x : Answer). pick (isDone x) (by (log .state) (heldOf tag id (recordsOf log))) (refused x)) e
-
   -- 2 and 3; load tells them from 4 and 5 by their numbers
   asked-refused : (q : Asked) (a : Answer) → entryAnswer 16 log (knownTo q) ≡ a → isDone a ≡ false → leb 4 (numberOf a) ≡ false → replyOf q log ≡ turnedAway q a
   unfolding getOf valueOf anchorOf needsMigrationOf
-  asked-refused (get credential) a e d low = read-refused counterBy counter.Refused (isCredential credential) counterTag credential a e d
-  asked-refused (get-value id) a e d low = read-refused numberBy number.Refused (isValue id) valueTag id a e d
-  asked-refused (remaining credential) a e d low = ap remainingIn (read-refused counterBy counter.Refused (isCredential credential) counterTag credential a e d)
-  asked-refused anchor a e d low = read-refused anchorBy anchored.Refused true anchorTag 0 a e d
-  asked-refused lamport a e d low = ap lamportBy (read-refused numberBy number.Refused true valueTag lamportId a e d)
-  asked-refused needs-migration a e d low = read-refused migrationBy refusedTold true anchorTag 0 a e d
+  asked-refused (get credential) a e d low = turned-away counterBy counter.Refused log (isCredential credential) counterTag credential a e d
+  asked-refused (get-value id) a e d low = turned-away numberBy number.Refused log (isValue id) valueTag id a e d
+  asked-refused (remaining credential) a e d low = ap remainingIn (turned-away counterBy counter.Refused log (isCredential credential) counterTag credential a e d)
+  asked-refused anchor a e d low = turned-away anchorBy anchored.Refused log true anchorTag 0 a e d
+  asked-refused lamport a e d low = ap lamportBy (turned-away numberBy number.Refused log true valueTag lamportId a e d)
+  asked-refused needs-migration a e d low = turned-away migrationBy refusedTold log true anchorTag 0 a e d
   asked-refused (load credential exists fresh) a e d low =
-      ap (loadBy exists fresh) (ap remainingIn (read-refused counterBy counter.Refused (isCredential credential) counterTag credential a e d))
+      ap (loadBy exists fresh) (ap remainingIn (turned-away counterBy counter.Refused log (isCredential credential) counterTag credential a e d))
       ∙ ap (λ (b : Bool). pick b (told 0) (refusedTold a)) low
 
   by-counter : (z : State) (held : OptRaw) → isDone (byState NotFormatted ReadError Done z) ≡ false → counterBy z held ≡ counter.Refused (byState NotFormatted ReadError Done z)
@@ -244,21 +219,21 @@ module _ (log : Log) where
   by-anchor Failed held e = refl
   by-anchor (Active sector seq head) held e = absurd (false≢true (sym e))
 
-  asked-not-ready : (q : Asked) → entryAnswer 16 log (knownTo q) ≡ Done → isDone (stateReply q (log .state)) ≡ false → replyOf q log ≡ turnedAway q (stateReply q (log .state))
+  asked-not-ready : (q : Asked) → isDone (entryAnswer 16 log (knownTo q)) ≡ true → isDone (stateReply q (log .state)) ≡ false → replyOf q log ≡ turnedAway q (stateReply q (log .state))
   unfolding getOf valueOf anchorOf needsMigrationOf
-  asked-not-ready (get credential) e d = read-on counterBy counter.Refused (isCredential credential) counterTag credential e ∙ by-counter (log .state) _ d
-  asked-not-ready (get-value id) e d = read-on numberBy number.Refused (isValue id) valueTag id e ∙ by-number (log .state) _ d
-  asked-not-ready (remaining credential) e d = ap remainingIn (read-on counterBy counter.Refused (isCredential credential) counterTag credential e ∙ by-counter (log .state) _ d)
-  asked-not-ready anchor e d = read-on anchorBy anchored.Refused true anchorTag 0 e ∙ by-anchor (log .state) _ d
-  asked-not-ready lamport e d = ap lamportBy (read-on numberBy number.Refused true valueTag lamportId e ∙ by-number (log .state) _ d)
+  asked-not-ready (get credential) e d = taken-in counterBy counter.Refused log (isCredential credential) counterTag credential e ∙ by-counter (log .state) _ d
+  asked-not-ready (get-value id) e d = taken-in numberBy number.Refused log (isValue id) valueTag id e ∙ by-number (log .state) _ d
+  asked-not-ready (remaining credential) e d = ap remainingIn (taken-in counterBy counter.Refused log (isCredential credential) counterTag credential e ∙ by-counter (log .state) _ d)
+  asked-not-ready anchor e d = taken-in anchorBy anchored.Refused log true anchorTag 0 e ∙ by-anchor (log .state) _ d
+  asked-not-ready lamport e d = ap lamportBy (taken-in numberBy number.Refused log true valueTag lamportId e ∙ by-number (log .state) _ d)
   asked-not-ready needs-migration e d = absurd (false≢true (sym d))
   asked-not-ready (load credential exists fresh) e d = absurd (false≢true (sym d))
 
   pub demand-1-asked : (q : Asked) → RefusesAsked q log
   demand-1-asked q = record {
-    bad-log = λ k. asked-refused q BadLog (bad-log 16 log (knownTo q) some-sectors k) refl refl;
-    bad-id = λ k z. asked-refused q BadId (bad-id 16 log (knownTo q) some-sectors k z) refl refl;
-    not-ready = λ k z. asked-not-ready q (let-in 16 log (knownTo q) some-sectors k z);
+    bad-log = λ k. asked-refused q BadLog (answer-bad-log 16 log (knownTo q) some-sectors k) refl refl;
+    bad-id = λ k z. asked-refused q BadId (answer-bad-id 16 log (knownTo q) some-sectors k z) refl refl;
+    not-ready = λ k z. asked-not-ready q (ap isDone (answer-done 16 log (knownTo q) some-sectors k z));
   }
 
 -- ---- opening

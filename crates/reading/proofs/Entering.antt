@@ -24,25 +24,29 @@ use Rattle.reading.specs.declared.Entry.{Entry}
 use Rattle.reading.specs.Entering.{entryAnswer, heldOf, roomFor, refusedEntry, foundEntry, entryOf}
 use Rattle.reading.specs.Reads.{readBy}
 
--- ---- the tests, in their order
-module _ (n : ℕ) (log : Log) (known : Bool) (tag id : ℕ) where
-  pub no-image : n ≡ 0 → refusedEntry BadImage ≡ entryOf n log known tag id
-  unfolding entryOf entryAnswer
-  no-image e = rw (eq-eqb n 0 e)
+-- ---- the tests, in their order: the answer, and so the entry
+module _ (n : ℕ) (log : Log) (known : Bool) where
+  pub answer-no-image : n ≡ 0 → entryAnswer n log known ≡ BadImage
+  unfolding entryAnswer
+  answer-no-image e = rw (eq-eqb n 0 e)
 
   module _ (image : n ≡ 0 → ⊥) where
-    pub bad-log : logFits n log ≡ false → refusedEntry BadLog ≡ entryOf n log known tag id
-    unfolding entryOf entryAnswer
-    bad-log e = rw (ne-eqb n 0 image, e)
+    pub answer-bad-log : logFits n log ≡ false → entryAnswer n log known ≡ BadLog
+    unfolding entryAnswer
+    answer-bad-log e = rw (ne-eqb n 0 image, e)
 
     module _ (fits : logFits n log ≡ true) where
-      pub bad-id : known ≡ false → refusedEntry BadId ≡ entryOf n log known tag id
-      unfolding entryOf entryAnswer
-      bad-id e = rw (ne-eqb n 0 image, fits, e)
+      pub answer-bad-id : known ≡ false → entryAnswer n log known ≡ BadId
+      unfolding entryAnswer
+      answer-bad-id e = rw (ne-eqb n 0 image, fits, e)
 
-      pub let-in : known ≡ true → foundEntry tag id (recordsOf log) ≡ entryOf n log known tag id
-      unfolding entryOf entryAnswer
-      let-in e = rw (ne-eqb n 0 image, fits, e)
+      pub answer-done : known ≡ true → entryAnswer n log known ≡ Done
+      unfolding entryAnswer
+      answer-done e = rw (ne-eqb n 0 image, fits, e)
+
+  pub entry-by : (tag id : ℕ) (a : Answer) → entryAnswer n log known ≡ a → pick (isDone a) (foundEntry tag id (recordsOf log)) (refusedEntry a) ≡ entryOf n log known tag id
+  unfolding entryOf
+  entry-by tag id a e = ap (λ (x : Answer). pick (isDone x) (foundEntry tag id (recordsOf log)) (refusedEntry x)) (sym e)
 
 -- ---- what stands at the place of a key
 module _ (tag id : ℕ) (t : List Raw) where
@@ -105,17 +109,22 @@ module _ (n : ℕ) (log : Log) (known : Bool) (tag id : ℕ) (e : Entry) (is-ent
     unfolding entryOf
     entry-found = is-entry ∙ ap (λ (b : Bool). pick b (foundEntry tag id (recordsOf log)) (refusedEntry (entryAnswer n log known))) entry-in
 
--- ---- reading, by what the entry says
-module _ {A : Type 0} (by : State → OptRaw → A) (refused : Answer → A) (log : Log) (known : Bool) (tag id : ℕ) (e : Entry) (is-entry : e ≡ entryOf 16 log known tag id) where
+-- ---- reading, by what the tests answer, and by what the entry says
+module _ {A : Type 0} (by : State → OptRaw → A) (refused : Answer → A) (log : Log) (known : Bool) (tag id : ℕ) where
   abbrev by-answer : Bool → A
   by-answer b = pick b (by (log .state) (heldOf tag id (recordsOf log))) (refused (entryAnswer 16 log known))
 
+  pub turned-away : (a : Answer) → entryAnswer 16 log known ≡ a → isDone a ≡ false → readBy by refused log known tag id ≡ refused a
+  turned-away a e d = ap by-answer (ap isDone e ∙ d) ∙ ap refused e
+
+  pub taken-in : isDone (entryAnswer 16 log known) ≡ true → readBy by refused log known tag id ≡ by (log .state) (heldOf tag id (recordsOf log))
+  taken-in d = ap by-answer d
+
+module _ {A : Type 0} (by : State → OptRaw → A) (refused : Answer → A) (log : Log) (known : Bool) (tag id : ℕ) (e : Entry) (is-entry : e ≡ entryOf 16 log known tag id) where
   pub read-refused : isDone (e .answer) ≡ false → refused (e .answer) ≡ readBy by refused log known tag id
-  read-refused d =
-      let same = entry-answer 16 log known tag id e is-entry in
-      ap refused same ∙ sym (ap by-answer (ap isDone (sym same) ∙ d))
+  read-refused d = sym (turned-away by refused log known tag id (e .answer) (sym (entry-answer 16 log known tag id e is-entry)) d)
 
   pub read-by : isDone (e .answer) ≡ true → by (log .state) (e .held) ≡ readBy by refused log known tag id
   read-by d =
       ap (λ (x : Entry). by (log .state) (x .held)) (entry-found 16 log known tag id e is-entry d)
-      ∙ sym (ap by-answer (entry-in 16 log known tag id e is-entry d))
+      ∙ sym (taken-in by refused log known tag id (entry-in 16 log known tag id e is-entry d))

@@ -70,7 +70,7 @@ fn told(t: Told) -> Reply {
 }
 
 fn get(log: Log, credential: u8) -> Reply {
-    match reading::get(log, credential) {
+    match getting::get(log, credential) {
         Counter::Refused(answer) => says(answer, Value::Absent),
         Counter::Nothing => says(Answer::Done, Value::Absent),
         Counter::Held(s) => says(
@@ -85,7 +85,7 @@ fn get(log: Log, credential: u8) -> Reply {
 }
 
 fn value(log: Log, id: u8) -> Reply {
-    match reading::value(log, id) {
+    match getting::value(log, id) {
         Number::Refused(answer) => says(answer, Value::Absent),
         Number::Nothing => says(Answer::Done, Value::Absent),
         Number::Held(x) => says(Answer::Done, Value::One(x)),
@@ -93,7 +93,7 @@ fn value(log: Log, id: u8) -> Reply {
 }
 
 fn anchor(log: Log) -> Reply {
-    match reading::anchor(log) {
+    match getting::anchor(log) {
         Anchored::Refused(answer) => says(answer, Value::Absent),
         Anchored::Nothing => says(Answer::Done, Value::Absent),
         Anchored::Held(a) => says(
@@ -129,7 +129,7 @@ fn read_none(line: &[u8], e: usize, log: Log) -> Reply
         return told(clock::lamport(log));
     }
     if script::is_same(line, b"needs_migration") {
-        return told(reading::needs_migration(log));
+        return told(asking::needs_migration(log));
     }
     unread()
 }

@@ -18,7 +18,7 @@ pub enum Left {
 pub fn remaining(log: Log, credential: u8) -> Left
     ensures { λ r. ⌜ r ≡ remainingLeft log credential ⌝ }
 {
-    match reading::get(log, credential) {
+    match getting::get(log, credential) {
         Counter::Refused(answer) => Left::Refused(answer),
         Counter::Nothing => Left::Nothing,
         Counter::Held(s) => Left::Tries(s.remaining()),

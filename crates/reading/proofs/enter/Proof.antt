@@ -14,10 +14,10 @@ use Rattle.fitting.specs.declared.Looked.{Looked}
 use Rattle.fitting.proofs.Owned.{whole-log}
 use Rattle.fitting.proofs.Laws.{fits-clauses, records-length}
 use Rattle.fitting.proofs.Looking.{looked-fits, looked-found}
-use Rattle.basics.specs.declared.Answer.the-variants.{Done}
+use Rattle.basics.specs.declared.Answer.the-variants.{Done, BadImage, BadLog, BadId}
 use Rattle.codec.specs.declared.OptRaw.{OptRaw}
 use Rattle.reading.specs.declared.Entry.{Entry}
-use Rattle.reading.proofs.Entering.{no-image, bad-log, bad-id, let-in, held-at, room-at}
+use Rattle.reading.proofs.Entering.{answer-no-image, answer-bad-log, answer-bad-id, answer-done, entry-by, held-at, room-at}
 use borrow.Author.Needs.{needs}
 use Rattle.reading.proofs.enter.Statement.{statement}
 use Rattle.reading.proofs.enter.Tie as tie
@@ -37,7 +37,7 @@ turned-requires c κs = search needs
 returns : tie.Need-returns
 returns c =
     let a = c .before .before .args in
-    c .turned .ensures ∙ no-image (a .sectors) (a .log) (a .known) (a .tag) (a .id) (c .before .if1 .taken)
+    c .turned .ensures ∙ entry-by (a .sectors) (a .log) (a .known) (a .tag) (a .id) BadImage (answer-no-image (a .sectors) (a .log) (a .known) (c .before .if1 .taken))
 
 look-requires : tie.Need-look-requires
 look-requires c κs = search needs
@@ -49,7 +49,8 @@ returns-2 : tie.Need-returns-2
 returns-2 c =
     let l = c .before .before .before in
     let a = start-of l .args in
-    c .turned2 .ensures ∙ bad-log (a .sectors) (a .log) (a .known) (a .tag) (a .id) (l .before .if1 .left) (fits-as l ∙ not-true (l .look .result .fits) (c .before .if2 .taken))
+    c .turned2 .ensures 
+    ∙ entry-by (a .sectors) (a .log) (a .known) (a .tag) (a .id) BadLog (answer-bad-log (a .sectors) (a .log) (a .known) (l .before .if1 .left) (fits-as l ∙ not-true (l .look .result .fits) (c .before .if2 .taken)))
 
 turned-requires-3 : tie.Need-turned-requires-3
 turned-requires-3 c κs = search needs
@@ -59,7 +60,8 @@ returns-3 c =
     let l = c .before .before .before .before in
     let a = start-of l .args in
     c .turned3 .ensures
-    ∙ bad-id (a .sectors) (a .log) (a .known) (a .tag) (a .id) (l .before .if1 .left) (fits-as l ∙ not-false (l .look .result .fits) (c .before .before .if2 .left)) (not-true (a .known) (c .before .if3 .taken))
+    ∙ entry-by (a .sectors) (a .log) (a .known) (a .tag) (a .id) BadId
+    (answer-bad-id (a .sectors) (a .log) (a .known) (l .before .if1 .left) (fits-as l ∙ not-false (l .look .result .fits) (c .before .before .if2 .left)) (not-true (a .known) (c .before .if3 .taken)))
 
 returns-4 : tie.Need-returns-4
 returns-4 c =
@@ -77,7 +79,7 @@ returns-4 c =
     ∙ ap₂ (λ (room : Bool) (held : OptRaw). record { answer = Done; at = placeOf (a .tag) (a .id) t; room = room; held = held })
     (room-at (a .tag) (a .id) t few)
     (ap (λ (n : ℕ). record { some = ltb (placeOf (a .tag) (a .id) t) n; raw = getD t (placeOf (a .tag) (a .id) t) noRaw }) (sym count) ∙ held-at (a .tag) (a .id) t)
-    ∙ let-in (a .sectors) (a .log) (a .known) (a .tag) (a .id) (l .before .if1 .left) fits (not-false (a .known) (n .if3 .left))
+    ∙ entry-by (a .sectors) (a .log) (a .known) (a .tag) (a .id) Done (answer-done (a .sectors) (a .log) (a .known) (l .before .if1 .left) fits (not-false (a .known) (n .if3 .left)))
 
 pub enter-spec : {M : Type 1} → statement M
 enter-spec =

@@ -1,16 +1,16 @@
--- `reading::needs_migration` meets its contract.
+-- `asking::needs_migration` meets its contract.
 use mathlib.Core.Path.{_≡_, sym, ap, _∙_}
 use mathlib.Core.Bool.{true, false}
 use borrow.Author.Tests.{not-true, not-false}
 use Rattle.basics.specs.Answers.{isDone}
 use Rattle.ids.specs.Ids.{anchorTag}
 use Rattle.records.specs.declared.State.{State}
 use Rattle.reading.specs.declared.Entry.{Entry}
 use Rattle.reading.specs.Reads.{refusedTold, migrationBy, needsMigrationOf}
 use Rattle.reading.proofs.Entering.{read-refused, read-by}
 use borrow.Author.Needs.{needs}
-use Rattle.reading.proofs.needs_migration.Statement.{statement}
-use Rattle.reading.proofs.needs_migration.Tie as tie
+use Rattle.asking.proofs.needs_migration.Statement.{statement}
+use Rattle.asking.proofs.needs_migration.Tie as tie
 
 module _ (d : tie.After-is-done) where
   abbrev start-of : tie.Start

@@ -1,4 +1,4 @@
--- `reading::get` meets its contract.
+-- `getting::get` meets its contract.
 use mathlib.Core.Path.{_≡_, sym, ap, _∙_}
 use mathlib.Core.Bool.{Bool, true, false}
 use borrow.Author.Tests.{not-true, not-false}
@@ -7,14 +7,14 @@ use Rattle.basics.specs.Answers.{isDone}
 use Rattle.ids.specs.Ids.{counterTag, isCredential}
 use Rattle.bodies.specs.Bodies.{counterIn}
 use Rattle.records.specs.declared.State.{State}
 use Rattle.reading.specs.declared.Entry.{Entry}
 use Rattle.reading.specs.declared.Counter.the-variants.{Refused, Nothing, Held}
 use Rattle.reading.specs.Entering.{entryOf}
 use Rattle.reading.specs.Reads.{counterBy, getOf}
 use Rattle.reading.proofs.Entering.{read-refused, read-by}
 use borrow.Author.Needs.{needs}
-use Rattle.reading.proofs.get.Statement.{statement}
-use Rattle.reading.proofs.get.Tie as tie
+use Rattle.getting.proofs.get.Statement.{statement}
+use Rattle.getting.proofs.get.Tie as tie
 
 module _ (d : tie.After-is-done) where
   abbrev start-of : tie.Start

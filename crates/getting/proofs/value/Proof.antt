@@ -1,4 +1,4 @@
--- `reading::value` meets its contract.
+-- `getting::value` meets its contract.
 use mathlib.Core.Path.{_≡_, sym, ap, _∙_}
 use mathlib.Core.Bool.{Bool, true, false}
 use borrow.Author.Tests.{not-true, not-false}
@@ -7,14 +7,14 @@ use Rattle.basics.specs.Answers.{isDone}
 use Rattle.ids.specs.Ids.{valueTag, isValue}
 use Rattle.bodies.specs.Bodies.{valueIn}
 use Rattle.records.specs.declared.State.{State}
 use Rattle.reading.specs.declared.Entry.{Entry}
 use Rattle.reading.specs.declared.Number.the-variants.{Refused, Nothing, Held}
 use Rattle.reading.specs.Entering.{entryOf}
 use Rattle.reading.specs.Reads.{numberBy, valueOf}
 use Rattle.reading.proofs.Entering.{read-refused, read-by}
 use borrow.Author.Needs.{needs}
-use Rattle.reading.proofs.value.Statement.{statement}
-use Rattle.reading.proofs.value.Tie as tie
+use Rattle.getting.proofs.value.Statement.{statement}
+use Rattle.getting.proofs.value.Tie as tie
 
 module _ (d : tie.After-is-done) where
   abbrev start-of : tie.Start

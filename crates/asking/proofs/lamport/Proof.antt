@@ -1,9 +1,9 @@
--- `reading::lamport` meets its contract.
+-- `asking::lamport` meets its contract.
 use mathlib.Core.Path.{sym, ap, _∙_}
 use Rattle.reading.specs.Reads.{lamportBy}
 use borrow.Author.Needs.{needs}
-use Rattle.reading.proofs.lamport.Statement.{statement}
-use Rattle.reading.proofs.lamport.Tie as tie
+use Rattle.asking.proofs.lamport.Statement.{statement}
+use Rattle.asking.proofs.lamport.Tie as tie
 
 value-requires : tie.Need-value-requires
 value-requires c κs = search needs

@@ -1,4 +1,4 @@
--- `reading::anchor` meets its contract.
+-- `getting::anchor` meets its contract.
 use mathlib.Core.Path.{_≡_, sym, ap, _∙_}
 use mathlib.Core.Bool.{Bool, true, false}
 use borrow.Author.Tests.{not-true, not-false}
@@ -7,14 +7,14 @@ use Rattle.basics.specs.Answers.{isDone}
 use Rattle.ids.specs.Ids.{anchorTag}
 use Rattle.bodies.specs.Bodies.{anchorIn}
 use Rattle.records.specs.declared.State.{State}
 use Rattle.reading.specs.declared.Entry.{Entry}
 use Rattle.reading.specs.declared.Anchored.the-variants.{Refused, Nothing, Held}
 use Rattle.reading.specs.Entering.{entryOf}
 use Rattle.reading.specs.Reads.{anchorBy, anchorOf}
 use Rattle.reading.proofs.Entering.{read-refused, read-by}
 use borrow.Author.Needs.{needs}
-use Rattle.reading.proofs.anchor.Statement.{statement}
-use Rattle.reading.proofs.anchor.Tie as tie
+use Rattle.getting.proofs.anchor.Statement.{statement}
+use Rattle.getting.proofs.anchor.Tie as tie
 
 module _ (d : tie.After-is-done) where
   abbrev start-of : tie.Start
