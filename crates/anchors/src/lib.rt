@@ -18,9 +18,9 @@ pub fn anchor_record(anchor: Anchor) -> AnchorRecord
             raw: z,
         };
     }
-    let g = basics::bytes2(anchor.format_gen);
-    let q = basics::bytes8(anchor.head_seq);
-    let s = basics::bytes2(anchor.head_slot);
+    let g = little::bytes2(anchor.format_gen);
+    let q = little::bytes8(anchor.head_seq);
+    let s = little::bytes2(anchor.head_slot);
     let r = Raw {
         tag: ids::ANCHOR_TAG,
         id: 0,
@@ -37,11 +37,11 @@ pub fn anchor_of(raw: Raw) -> Anchor
     ensures { λ r. ⌜ r ≡ anchorIn (raw .body) ⌝ }
 {
     let b = raw.body;
-    let low = basics::number4(b[2], b[3], b[4], b[5]);
-    let high = basics::number4(b[6], b[7], 0, 0);
+    let low = numbers::number4(b[2], b[3], b[4], b[5]);
+    let high = numbers::number4(b[6], b[7], 0, 0);
     Anchor {
-        format_gen: basics::number2(b[0], b[1]),
-        head_seq: basics::joined(low, high),
-        head_slot: basics::number2(b[8], b[9]),
+        format_gen: numbers::number2(b[0], b[1]),
+        head_seq: numbers::joined(low, high),
+        head_slot: numbers::number2(b[8], b[9]),
     }
 }

@@ -8,8 +8,8 @@ ghost use Rattle.bodies.specs.Bodies.{counterRecord, counterIn};
 pub fn counter_record(credential: u8, state: CounterState) -> Raw
     ensures { λ r. ⌜ r ≡ counterRecord credential state ⌝ }
 {
-    let t = basics::bytes4(state.total);
-    let a = basics::bytes4(state.at_reset);
+    let t = little::bytes4(state.total);
+    let a = little::bytes4(state.at_reset);
     Raw {
         tag: ids::COUNTER_TAG,
         id: credential,
@@ -34,8 +34,8 @@ pub fn counter_of(raw: Raw) -> CounterState
 {
     let b = raw.body;
     CounterState {
-        total: basics::number4(b[2], b[3], b[4], b[5]),
-        at_reset: basics::number4(b[6], b[7], b[8], b[9]),
+        total: numbers::number4(b[2], b[3], b[4], b[5]),
+        at_reset: numbers::number4(b[6], b[7], b[8], b[9]),
         allowance: b[0],
     }
 }

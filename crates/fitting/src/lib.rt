@@ -1,15 +1,13 @@
-// Looking a log value over once: whether it fits an image of so many sectors, and where a key stands in it.
+// What a log value must be to fit an image of so many sectors, and the tests of its state and of the places past its count.
+// The look over the whole of it stands in looking.
 use codec::Raw;
 use records::LIMIT;
-use records::Log;
 use records::State;
 ghost use mathlib.Core.Path.{_≡_};
-ghost use Prim.Native.Nat.{_≤_};
 ghost use lib.Dec.{eqb};
-ghost use lib.ListN.{drop, take};
-ghost use Rattle.records.specs.Table.{limit};
-ghost use Rattle.fitting.specs.Fitting.{stateFits, isZeros, allZeros, lookedOf};
-ghost use Rattle.fitting.specs.Steps.{refused, surveyOf};
+ghost use lib.ListN.{drop};
+ghost use Rattle.fitting.specs.Fitting.{stateFits, isZeros, allZeros};
+ghost use Rattle.fitting.specs.Steps.{refused};
 
 // The highest number a sector can have.
 pub const SEQ_MAX: u32 = 4294967295;
@@ -22,7 +20,7 @@ pub struct Looked {
 }
 
 // What is found in a log that doesn't fit.
-fn misfit() -> Looked
+pub fn misfit() -> Looked
     ensures { λ r. ⌜ r ≡ refused ⌝ }
 {
     let z = Raw::none();
@@ -33,7 +31,7 @@ fn misfit() -> Looked
     }
 }
 
-fn state_fits(state: State, next_seq: u32, count: usize, sectors: usize) -> bool
+pub fn state_fits(state: State, next_seq: u32, count: usize, sectors: usize) -> bool
     ensures { λ r. ⌜ r ≡ stateFits sectors state «next_seq» count ⌝ }
 {
     match state {
@@ -62,13 +60,13 @@ fn bits_of(r: Raw) -> u32
     ensures { λ bits. ⌜ eqb bits 0 ≡ isZeros r ⌝ }
 {
     let b = r.body;
-    basics::number4(r.tag, r.id, b[0], b[1])
-        | basics::number4(b[2], b[3], b[4], b[5])
-        | basics::number4(b[6], b[7], b[8], b[9])
+    numbers::number4(r.tag, r.id, b[0], b[1])
+        | numbers::number4(b[2], b[3], b[4], b[5])
+        | numbers::number4(b[6], b[7], b[8], b[9])
 }
 
 // Whether the places past the count are zeros. Every place is looked at, so that the loop has no branch.
-fn zeros_past(table: [Raw; LIMIT], count: usize) -> bool
+pub fn zeros_past(table: [Raw; LIMIT], count: usize) -> bool
     ensures { λ r. ⌜ r ≡ allZeros (drop count table) ⌝ }
 {
     let mut any: u32 = 0;
@@ -78,67 +76,4 @@ fn zeros_past(table: [Raw; LIMIT], count: usize) -> bool
         i += 1;
     }
     any == 0
-}
-
-// Whether no key stands twice and no tag is FF, and where a key stands. A key can only stand twice if its id does, so
-// keys are compared only where an id is met again.
-fn survey(table: [Raw; LIMIT], count: usize, tag: u8, id: u8) -> Looked
-    requires { ⌜ count ≤ limit ⌝ }
-    ensures { λ r. ⌜ r ≡ surveyOf tag id (take count table) ⌝ }
-{
-    let mut met = [0u8; 256];
-    let mut tags = [0u8; LIMIT];
-    let mut ids = [0u8; LIMIT];
-    let mut at = count;
-    let mut held = Raw::none();
-    let mut i: usize = 0;
-    while i < count {
-        let r = table[i];
-        if r.tag == 0xFF {
-            return misfit();
-        }
-        let mark = r.id as usize;
-        if met[mark] != 0 {
-            if records::find(&tags, &ids, i, r.tag, r.id) < i {
-                return misfit();
-            }
-        }
-        met[mark] = 1;
-        tags[i] = r.tag;
-        ids[i] = r.id;
-        if r.tag == tag {
-            if r.id == id {
-                at = i;
-                held = r;
-            }
-        }
-        i += 1;
-    }
-    Looked {
-        fits: true,
-        at: at,
-        held: held,
-    }
-}
-
-// Whether a log fits an image of so many sectors, and in one that does, the place of a key, or the count, and the record there.
-pub fn look(log: Log, sectors: usize, tag: u8, id: u8) -> Looked
-    ensures { λ r. ⌜ r ≡ lookedOf sectors tag id log ⌝ }
-{
-    let state = log.state;
-    let table = log.table;
-    let count = log.count;
-    if log.next_seq == 0 {
-        return misfit();
-    }
-    if LIMIT < count {
-        return misfit();
-    }
-    if !state_fits(state, log.next_seq, count, sectors) {
-        return misfit();
-    }
-    if !zeros_past(table, count) {
-        return misfit();
-    }
-    survey(table, count, tag, id)
 }

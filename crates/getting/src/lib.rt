@@ -44,7 +44,13 @@ pub fn get(log: Log, credential: u8) -> Counter
 pub fn value(log: Log, id: u8) -> Number
     ensures { λ r. ⌜ r ≡ valueOf log id ⌝ }
 {
-    let e = reading::enter(log, reading::MOST, meanings::is_value(id), ids::VALUE_TAG, id);
+    let e = reading::enter(
+        log,
+        reading::MOST,
+        meanings::is_value(id),
+        ids::VALUE_TAG,
+        id,
+    );
     let answer = e.answer;
     if !basics::is_done(answer) {
         return Number::Refused(answer);

@@ -9,7 +9,7 @@ fn header_bytes(seq: u32) -> [u8; 12]
     ensures { λ r. ⌜ r ≡ headerBytes seq ⌝ }
 {
     let m = *b"P2RC";
-    let s = basics::bytes4(seq);
+    let s = little::bytes4(seq);
     [
         m[0],
         m[1],
@@ -66,5 +66,5 @@ pub fn decode_header(slot: &[u8], version: u8) -> Header
     if sealing::check12(crc::start(), slot) != sealing::carried(slot) {
         return Header::Invalid;
     }
-    Header::Valid(basics::number4(slot[4], slot[5], slot[6], slot[7]))
+    Header::Valid(numbers::number4(slot[4], slot[5], slot[6], slot[7]))
 }

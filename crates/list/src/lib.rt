@@ -77,7 +77,7 @@ pub fn list(image: &[u8], out: &mut [u8]) -> usize
     if out.len() < LONGEST {
         return 0;
     }
-    let o = scan::open(image);
+    let o = opening::open(image);
     let answer = o.answer;
     if !basics::is_done(answer) {
         return text::put_bytes(out, 0, b"bad-image\n");

@@ -66,7 +66,7 @@ pub fn enter(log: Log, sectors: usize, known: bool, tag: u8, id: u8) -> Entry
     if sectors == 0 {
         return turned(Answer::BadImage);
     }
-    let l = fitting::look(log, sectors, tag, id);
+    let l = looking::look(log, sectors, tag, id);
     if !l.fits {
         return turned(Answer::BadLog);
     }

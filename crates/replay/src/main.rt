@@ -77,7 +77,7 @@ fn open(image: &[u8], out: &mut [u8], at: usize, board: Board) -> Step
     requires { ⌜ (64 ≤ length (now out)) × (at ≤ length (now out)) ⌝ }
     ensures { λ r. ⌜ (r .at ≤ length (now (out .entry))) × (r .board .len ≡ board .len) ⌝ }
 {
-    let o = scan::open(image);
+    let o = opening::open(image);
     let answer = o.answer;
     let log = o.log;
     let plan = board.plan;

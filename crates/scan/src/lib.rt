@@ -1,4 +1,5 @@
-// Opening an image: the header that wins, one pass over the slots of its sector, and the log that they give.
+// What opening an image gives, and its first step: the header that wins.
+// The pass over the slots of that sector, and the log that they give, stand in opening.
 use basics::Answer;
 use codec::Header;
 use codec::Raw;
@@ -6,13 +7,10 @@ use records::LIMIT;
 use records::Log;
 use records::State;
 ghost use mathlib.Core.Path.{_≡_};
-ghost use mathlib.Core.List.{[]};
-ghost use Prim.Native.Nat.{_+_, _*_, _≤_, _<_};
+ghost use Prim.Native.Nat.{_*_, _≤_};
 ghost use lib.ListN.{length};
-ghost use Rattle.flash.specs.Image.{slotAt};
 ghost use Rattle.scan.specs.Choosing.{better, chosenOf};
-ghost use Rattle.scan.specs.Reading.{recordsIn, headIn};
-ghost use Rattle.scan.specs.Opening.{regionOf, regionRead, scanOf, nextOf, openOf};
+ghost use Rattle.scan.specs.Opening.{nextOf};
 
 // The sector whose header wins.
 pub enum Chosen {
@@ -60,7 +58,7 @@ fn better_of(best: Chosen, sector: usize, header: Header) -> Chosen
 }
 
 // Each header is read once.
-fn choose(image: &[u8], sectors: usize, version: u8) -> Chosen
+pub fn choose(image: &[u8], sectors: usize, version: u8) -> Chosen
     requires { ⌜ (sectors ≤ 16) × (sectors * 4096 ≤ length (now image)) ⌝ }
     ensures { λ r. ⌜ r ≡ chosenOf version sectors (now (image .entry)) ⌝ }
 {
@@ -74,88 +72,7 @@ fn choose(image: &[u8], sectors: usize, version: u8) -> Chosen
     best
 }
 
-// One pass over the slots of a sector: the records, and one past the last slot that isn't erased.
-fn scan_sector(image: &[u8], sector: usize, seq: u32) -> RegionScan
-    requires { ⌜ (sector < 16) × (sector * 4096 + 4096 ≤ length (now image)) ⌝ }
-    ensures { λ r. ⌜ r ≡ regionRead sector seq (headIn (slotAt (now (image .entry)) sector)) (recordsIn seq (slotAt (now (image .entry)) sector)) ⌝ }
-{
-    let start = sealing::under(seq);
-    let mut table = records::empty_table();
-    let mut tags = [0u8; LIMIT];
-    let mut ids = [0u8; LIMIT];
-    let mut count: usize = 0;
-    let mut head: u32 = 1;
-    let mut k: usize = 1;
-    while k < 256 {
-        let slot = flash::slot(image, sector, k);
-        k += 1;
-        if codec::is_erased(slot) {
-            continue;
-        }
-        head = k as u32;
-        let d = slots::decode_from(slot, start);
-        if !d.some {
-            continue;
-        }
-        let r = d.raw;
-        let at = records::find(&tags, &ids, count, r.tag, r.id);
-        if at < count {
-            if records::replaces(r, table[at]) {
-                table[at] = r;
-            }
-            continue;
-        }
-        if count == LIMIT {
-            return unreadable();
-        }
-        table[count] = r;
-        tags[count] = r.tag;
-        ids[count] = r.id;
-        count += 1;
-    }
-    let state = State::Active {
-        sector: sector as u32,
-        seq: seq,
-        head: head,
-    };
-    RegionScan {
-        state: state,
-        count: count,
-        table: table,
-    }
-}
-
-// More keys than a log can hold: nothing of it is taken.
-fn unreadable() -> RegionScan
-    ensures { λ r. ⌜ r ≡ regionOf State.Failed [] ⌝ }
-{
-    let t = records::empty_table();
-    RegionScan {
-        state: State::Failed,
-        count: 0,
-        table: t,
-    }
-}
-
-// The region of an image with headers of this version.
-pub fn scan_region(image: &[u8], version: u8) -> RegionScan
-    ensures { λ r. ⌜ r ≡ scanOf version (now (image .entry)) ⌝ }
-{
-    let n = flash::sectors(image.len());
-    match choose(image, n, version) {
-        Chosen::Nothing => {
-            let t = records::empty_table();
-            RegionScan {
-                state: State::Unformatted,
-                count: 0,
-                table: t,
-            }
-        }
-        Chosen::Sector { sector, seq } => scan_sector(image, sector, seq),
-    }
-}
-
-fn next_of(state: State) -> u32
+pub fn next_of(state: State) -> u32
     ensures { λ r. ⌜ r ≡ nextOf state ⌝ }
 {
     match state {
@@ -172,31 +89,5 @@ fn next_of(state: State) -> u32
         }
         State::Unformatted => 1,
         State::Failed => 1,
-    }
-}
-
-// Opening always gives a log; the answer is about the image's size alone.
-pub fn open(image: &[u8]) -> Opened
-    ensures { λ r. ⌜ r ≡ openOf (now (image .entry)) ⌝ }
-{
-    if flash::sectors(image.len()) == 0 {
-        let none = records::empty(State::Failed, 1);
-        return Opened {
-            answer: Answer::BadImage,
-            log: none,
-        };
-    }
-    let r = scan_region(image, codec::FORMAT_VERSION);
-    let state = r.state;
-    let table = r.table;
-    let log = Log {
-        state: state,
-        next_seq: next_of(state),
-        count: r.count,
-        table: table,
-    };
-    Opened {
-        answer: Answer::Done,
-        log: log,
     }
 }

@@ -24,14 +24,14 @@ pub fn carried(slot: &[u8]) -> u32
     requires { ⌜ length (now slot) ≡ 16 ⌝ }
     ensures { λ r. ⌜ r ≡ crcIn (now (slot .entry)) ⌝ }
 {
-    basics::number4(slot[12], slot[13], slot[14], slot[15])
+    numbers::number4(slot[12], slot[13], slot[14], slot[15])
 }
 
 // Twelve bytes with their checksum behind them.
 pub fn seal(b: [u8; 12], check: u32) -> [u8; 16]
     ensures { λ r. ⌜ r ≡ sealed check b ⌝ }
 {
-    let c = basics::bytes4(check);
+    let c = little::bytes4(check);
     [
         b[0],
         b[1],

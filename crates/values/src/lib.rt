@@ -7,7 +7,7 @@ ghost use Rattle.bodies.specs.Bodies.{valueRecord, valueIn};
 pub fn value_record(id: u8, x: u64) -> Raw
     ensures { λ r. ⌜ r ≡ valueRecord id x ⌝ }
 {
-    let b = basics::bytes8(x);
+    let b = little::bytes8(x);
     Raw {
         tag: ids::VALUE_TAG,
         id: id,
@@ -20,7 +20,7 @@ pub fn value_of(raw: Raw) -> u64
     ensures { λ r. ⌜ r ≡ valueIn (raw .body) ⌝ }
 {
     let b = raw.body;
-    let low = basics::number4(b[2], b[3], b[4], b[5]);
-    let high = basics::number4(b[6], b[7], b[8], b[9]);
-    basics::joined(low, high)
+    let low = numbers::number4(b[2], b[3], b[4], b[5]);
+    let high = numbers::number4(b[6], b[7], b[8], b[9]);
+    numbers::joined(low, high)
 }

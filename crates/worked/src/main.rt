@@ -205,7 +205,7 @@ fn refused_programs() {
 
 fn one_spend() {
     let mut image = [0xFFu8; 8192];
-    let o = scan::open(&image);
+    let o = opening::open(&image);
     let blank = o.log;
     let d = starting::format(&mut image, blank, calm(), user_pin(), 1);
     let log = call_line(b"format: ", &image, d);

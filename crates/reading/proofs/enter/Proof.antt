@@ -49,7 +49,7 @@ returns-2 : tie.Need-returns-2
 returns-2 c =
     let l = c .before .before .before in
     let a = start-of l .args in
-    c .turned2 .ensures 
+    c .turned2 .ensures
     ∙ entry-by (a .sectors) (a .log) (a .known) (a .tag) (a .id) BadLog (answer-bad-log (a .sectors) (a .log) (a .known) (l .before .if1 .left) (fits-as l ∙ not-true (l .look .result .fits) (c .before .if2 .taken)))
 
 turned-requires-3 : tie.Need-turned-requires-3

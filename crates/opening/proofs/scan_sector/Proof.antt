@@ -1,12 +1,12 @@
--- `scan::scan_sector` meets its contract.
+-- `opening::scan_sector` meets its contract.
 use Rattle.records.specs.declared.State.the-variants.{Active}
 use Rattle.records.proofs.Joining.{nowhere}
 use Rattle.records.proofs.Places.{places-get}
 use Rattle.scan.specs.Reading.{these}
 use Rattle.codec.specs.declared.Raw.{Raw}
 use Rattle.codec.specs.declared.OptRaw.{OptRaw}
 use Rattle.records.specs.Table.{placeOf, falls}
 use Rattle.scan.specs.Opening.{regionRead}
 use mathlib.Core.Path.{_≡_, refl, sym, ap, ap₂, _∙_}
 use mathlib.Core.Bool.{false}
 use mathlib.Core.List.{List, []}
@@ -18,9 +18,9 @@ use borrow.Author.Tests.{not-true, not-false}
 use Rattle.codec.specs.Slots.{some, seqFed, crcFrom, decodedWith, decoded}
 use Rattle.codec.proofs.Laws.{decoded-from}
 use Rattle.flash.specs.Image.{slotAt}
 use Rattle.scan.proofs.Reading.{Scanning, pass, skip, replace, keep, add, full, place-found, read-end, head-end}
-use Rattle.scan.proofs.scan_sector.Statement.{statement}
-use Rattle.scan.proofs.scan_sector.Tie as tie
+use Rattle.opening.proofs.scan_sector.Statement.{statement}
+use Rattle.opening.proofs.scan_sector.Tie as tie
 
 abbrev Inv-loop : tie.InvT-loop
 Inv-loop image sector seq start table₀ tags₀ ids₀ count₀ head₀ k₀ table tags ids count head k =

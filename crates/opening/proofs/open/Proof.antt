@@ -1,9 +1,9 @@
--- `scan::open` meets its contract.
+-- `opening::open` meets its contract.
 use borrow.Author.Tests.{eq-eqb, ne-eqb}
 use Rattle.scan.specs.Opening.{openOf}
 use borrow.Author.Needs.{needs}
-use Rattle.scan.proofs.open.Statement.{statement}
-use Rattle.scan.proofs.open.Tie as tie
+use Rattle.opening.proofs.open.Statement.{statement}
+use Rattle.opening.proofs.open.Tie as tie
 
 sectors-requires : tie.Need-sectors-requires
 sectors-requires c κs = search needs

@@ -1,15 +1,15 @@
--- `scan::scan_region` meets its contract.
+-- `opening::scan_region` meets its contract.
 use mathlib.Core.Path.{sym, ap, _∙_, subst}
 use Prim.Native.Nat.{ℕ}
 use native.Mathlib.Omega.{arith}
 use lib.ListN.{length}
 use Rattle.flash.proofs.Geometry.{sectors-fit}
 use Rattle.scan.specs.Choosing.{headerAt, chosenOf, Wins}
 use Rattle.scan.specs.Opening.{regionChosen, scanOf}
 use Rattle.scan.proofs.Winning.{Right, chosen-right}
 use borrow.Author.Needs.{needs}
-use Rattle.scan.proofs.scan_region.Statement.{statement}
-use Rattle.scan.proofs.scan_region.Tie as tie
+use Rattle.opening.proofs.scan_region.Statement.{statement}
+use Rattle.opening.proofs.scan_region.Tie as tie
 
 sectors-requires : tie.Need-sectors-requires
 sectors-requires c κs = search needs

@@ -1,9 +1,9 @@
--- `basics::bytes4` meets its contract.
+-- `little::bytes4` meets its contract.
 use mathlib.Core.Path.{refl}
 use Rattle.basics.specs.Little.{leBytes}
 use borrow.Author.Needs.{needs}
-use Rattle.basics.proofs.bytes4.Statement.{statement}
-use Rattle.basics.proofs.bytes4.Tie as tie
+use Rattle.little.proofs.bytes4.Statement.{statement}
+use Rattle.little.proofs.bytes4.Tie as tie
 
 cast-t5 : tie.Need-cast-t5
 cast-t5 c = search needs

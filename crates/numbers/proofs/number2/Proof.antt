@@ -1,9 +1,9 @@
--- `basics::number2` meets its contract.
+-- `numbers::number2` meets its contract.
 use native.Mathlib.Omega.{arith}
 use Rattle.basics.specs.Little.{leNumber}
 use borrow.Author.Needs.{needs}
-use Rattle.basics.proofs.number2.Statement.{statement}
-use Rattle.basics.proofs.number2.Tie as tie
+use Rattle.numbers.proofs.number2.Statement.{statement}
+use Rattle.numbers.proofs.number2.Tie as tie
 
 mul-result : tie.Need-mul-result
 mul-result c = search needs

@@ -1,7 +1,7 @@
--- `scan::unreadable` meets its contract.
+-- `opening::unreadable` meets its contract.
 use borrow.Author.Needs.{needs}
-use Rattle.scan.proofs.unreadable.Statement.{statement}
-use Rattle.scan.proofs.unreadable.Tie as tie
+use Rattle.opening.proofs.unreadable.Statement.{statement}
+use Rattle.opening.proofs.unreadable.Tie as tie
 
 empty-table-requires : tie.Need-empty-table-requires
 empty-table-requires c κs = search needs

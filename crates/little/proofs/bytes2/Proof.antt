@@ -1,9 +1,9 @@
--- `basics::bytes2` meets its contract.
+-- `little::bytes2` meets its contract.
 use mathlib.Core.Path.{refl}
 use Rattle.basics.specs.Little.{leBytes}
 use borrow.Author.Needs.{needs}
-use Rattle.basics.proofs.bytes2.Statement.{statement}
-use Rattle.basics.proofs.bytes2.Tie as tie
+use Rattle.little.proofs.bytes2.Statement.{statement}
+use Rattle.little.proofs.bytes2.Tie as tie
 
 cast-t3 : tie.Need-cast-t3
 cast-t3 c = search needs

@@ -1,10 +1,10 @@
--- `fitting::look` meets its contract.
+-- `looking::look` meets its contract.
 use mathlib.Core.Path.{sym, _∙_}
 use borrow.Author.Tests.{not-true, not-false}
 use Rattle.fitting.proofs.Looking.{no-seq, too-many, bad-state, bad-places, by-keys}
 use borrow.Author.Needs.{needs}
-use Rattle.fitting.proofs.look.Statement.{statement}
-use Rattle.fitting.proofs.look.Tie as tie
+use Rattle.looking.proofs.look.Statement.{statement}
+use Rattle.looking.proofs.look.Tie as tie
 
 misfit-requires : tie.Need-misfit-requires
 misfit-requires c κs = search needs

@@ -1,9 +1,9 @@
--- `basics::bytes8` meets its contract.
+-- `little::bytes8` meets its contract.
 use mathlib.Core.Path.{refl}
 use Rattle.basics.specs.Little.{leBytes}
 use borrow.Author.Needs.{needs}
-use Rattle.basics.proofs.bytes8.Statement.{statement}
-use Rattle.basics.proofs.bytes8.Tie as tie
+use Rattle.little.proofs.bytes8.Statement.{statement}
+use Rattle.little.proofs.bytes8.Tie as tie
 
 cast-t9 : tie.Need-cast-t9
 cast-t9 c = search needs
