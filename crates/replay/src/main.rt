@@ -1,33 +1,18 @@
 // Replays the script on standard input: does its calls one by one, and writes what each answered on standard output.
 // The input comes in chunks; what a chunk has of a line without its end waits for the next.
-mod answers;
-mod calls;
-mod lines;
-mod output;
-
-use crate::answers::Value;
-use crate::calls::Reply;
-use crate::calls::Work;
-use crate::lines::Board;
-use crate::lines::SPACE;
-use basics::Answer;
+use board::Board;
+use board::SPACE;
+use board::Step;
+use calling::Work;
 use flash::Plan;
-use libc::STDIN_FILENO;
 use records::State;
 ghost use mathlib.Core.Path.{_≡_};
-ghost use Prim.Native.Nat.{_≤_, _<_};
+ghost use Prim.Native.Nat.{_≤_};
 ghost use lib.ListN.{length};
 ghost use Rattle.replay.specs.Limits.{Sound};
 
 // The most characters of a line.
 const LINE: usize = 16384;
-
-// What a line made of the board, and where the text in the buffer ends.
-pub struct Step {
-    pub ok: bool,
-    pub at: usize,
-    pub board: Board,
-}
 
 // How far a script is: its lines so far, where the text in the buffer ends, whether a line couldn't be read, the board, and the one kept.
 pub struct Session {
@@ -48,92 +33,6 @@ pub struct Chunk {
 pub struct Round {
     pub have: usize,
     pub session: Session,
-}
-
-fn copy(from: &[u8], to: &mut [u8])
-    requires { ⌜ length (now from) ≤ length (now to) ⌝ }
-{
-    let mut i: usize = 0;
-    while i < from.len() {
-        to[i] = from[i];
-        i += 1;
-    }
-}
-
-// The line of a call that leaves the image as it is.
-fn answered(out: &mut [u8], at: usize, r: Reply, board: Board) -> usize
-    requires { ⌜ (64 ≤ length (now out)) × (at ≤ length (now out)) ⌝ }
-    ensures { λ e. ⌜ e ≤ length (now (out .entry)) ⌝ }
-{
-    let answer = r.answer;
-    let value = r.value;
-    let plan = board.plan;
-    let log = board.log;
-    let a = answers::answer(out, at, basics::number(answer), value, 0, 0, plan, log);
-    output::byte(out, a, b'\n')
-}
-
-fn open(image: &[u8], out: &mut [u8], at: usize, board: Board) -> Step
-    requires { ⌜ (64 ≤ length (now out)) × (at ≤ length (now out)) ⌝ }
-    ensures { λ r. ⌜ (r .at ≤ length (now (out .entry))) × (r .board .len ≡ board .len) ⌝ }
-{
-    let o = scan::open(image);
-    let answer = o.answer;
-    let log = o.log;
-    let plan = board.plan;
-    let new = Board {
-        len: board.len,
-        plan: plan,
-        log: log,
-    };
-    let r = Reply {
-        ok: true,
-        answer: answer,
-        value: Value::Dash,
-    };
-    Step {
-        ok: true,
-        at: answered(out, at, r, new),
-        board: new,
-    }
-}
-
-// The listing of the image. It begins a buffer, so what stands there is written first.
-fn listing(image: &[u8], out: &mut [u8], at: usize) -> usize
-    requires { ⌜ at ≤ length (now out) ⌝ }
-    ensures { λ r. ⌜ r ≤ length (now (out .entry)) ⌝ }
-{
-    output::flush(out, at);
-    list::list(image, out)
-}
-
-// A line that looks at the image, if it is one of these.
-fn look(line: &[u8], image: &[u8], out: &mut [u8], at: usize, board: Board) -> Step
-    requires { ⌜ (64 ≤ length (now out)) × (at ≤ length (now out)) ⌝ }
-    ensures { λ r. ⌜ (r .at ≤ length (now (out .entry))) × (r .board .len ≡ board .len) ⌝ }
-{
-    if script::is_same(line, b"open") {
-        return open(image, out, at, board);
-    }
-    if script::is_same(line, b"dump") {
-        return Step {
-            ok: true,
-            at: answers::dump(out, at, image),
-            board: board,
-        };
-    }
-    if script::is_same(line, b"list") {
-        return Step {
-            ok: true,
-            at: listing(image, out, at),
-            board: board,
-        };
-    }
-    Step {
-        ok: false,
-        at: at,
-        board: board,
-    }
 }
 
 // The line of a call that may have changed the image.
@@ -157,7 +56,7 @@ fn worked(out: &mut [u8], at: usize, w: Work, before: &[u8], image: &[u8]) -> us
         plan,
         log,
     );
-    let b = answers::changes(out, a, before, image);
+    let b = changes::changes(out, a, before, image);
     output::byte(out, b, b'\n')
 }
 
@@ -178,8 +77,8 @@ fn write(
 {
     let log = board.log;
     let plan = board.plan;
-    copy(image, before);
-    let w = calls::write(line, e, image, log, plan);
+    changes::copy(image, before);
+    let w = calling::write(line, e, image, log, plan);
     if !w.ok {
         return Step {
             ok: false,
@@ -202,14 +101,6 @@ fn write(
     }
 }
 
-// Where the first `stop` stands from `from` on, or the text's end.
-fn until(text: &[u8], from: usize, stop: u8) -> usize
-    requires { ⌜ from ≤ length (now text) ⌝ }
-    ensures { λ r. ⌜ (from ≤ r) × (r ≤ length (now (text .entry))) ⌝ }
-{
-    script::end(text, from, stop)
-}
-
 // Any call, and the lines that show the image. One that nothing reads is not ok.
 fn call(
     line: &[u8],
@@ -226,15 +117,15 @@ fn call(
     ensures { λ r. ⌜ (r .at ≤ length (now (out .entry))) × (r .board .len ≡ board .len) ⌝ }
 {
     let log = board.log;
-    let r = calls::read(line, e, log);
+    let r = asking::read(line, e, log);
     if r.ok {
         return Step {
             ok: true,
-            at: answered(out, at, r, board),
+            at: looking::answered(out, at, r, board),
             board: board,
         };
     }
-    let s = look(line, image, out, at, board);
+    let s = looking::look(line, image, out, at, board);
     if s.ok {
         return s;
     }
@@ -255,9 +146,9 @@ fn work(
     requires { ⌜ board .len ≤ 65536 ⌝ }
     ensures { λ r. ⌜ (r .at ≤ length (now (out .entry))) × (r .board .len ≤ 65536) ⌝ }
 {
-    let e = until(line, 0, b' ');
+    let e = chunks::until(line, 0, b' ');
     let n = board.len;
-    let s = lines::setting(line, e, image, board);
+    let s = setting::setting(line, e, image, board);
     if s.ok {
         let new = s.board;
         return Step {
@@ -293,15 +184,15 @@ fn turn(
     }
     let now = s.now;
     let kept = s.kept;
-    if script::is_same(line, b"save") {
+    if words::is_same(line, b"save") {
         let n = now.len;
-        copy(&image[0..n], saved);
+        changes::copy(&image[0..n], saved);
         s.kept = now;
         return s;
     }
-    if script::is_same(line, b"restore") {
+    if words::is_same(line, b"restore") {
         let n = kept.len;
-        copy(&saved[0..n], image);
+        changes::copy(&saved[0..n], image);
         s.now = kept;
         return s;
     }
@@ -311,20 +202,6 @@ fn turn(
     s.at = r.at;
     s.over = !r.ok;
     s
-}
-
-// Where a line ends without a space at its end.
-fn trimmed(text: &[u8], from: usize, to: usize) -> usize
-    requires { ⌜ (from ≤ to) × (to ≤ length (now text)) ⌝ }
-    ensures { λ r. ⌜ (from ≤ r) × (r ≤ to) ⌝ }
-{
-    if from == to {
-        return to;
-    }
-    if text[to - 1] == b' ' {
-        return to - 1;
-    }
-    to
 }
 
 // A line that is too long can't be read.
@@ -354,7 +231,7 @@ fn whole_lines(
     let mut s = session;
     let mut from: usize = 0;
     while from < text.len() {
-        let to = until(text, from, b'\n');
+        let to = chunks::until(text, from, b'\n');
         if LINE < to - from {
             s = too_long(s);
             break;
@@ -362,7 +239,7 @@ fn whole_lines(
         if to == text.len() {
             break;
         }
-        let end = trimmed(text, from, to);
+        let end = chunks::trimmed(text, from, to);
         s = turn(&text[from..end], image, saved, before, out, s);
         if s.over {
             break;
@@ -373,29 +250,6 @@ fn whole_lines(
         from: from,
         session: s,
     }
-}
-
-// The bytes from `from` to `to`, moved to the front; answers how many they are.
-fn keep(input: &mut [u8], from: usize, to: usize) -> usize
-    requires { ⌜ (from ≤ to) × (to ≤ length (now input)) ⌝ }
-    ensures { λ r. ⌜ r ≤ length (now (input .entry)) ⌝ }
-{
-    let n = to - from;
-    let mut i: usize = 0;
-    while i < n {
-        input[i] = input[from + i];
-        i += 1;
-    }
-    n
-}
-
-// One read behind the first `have` bytes; answers how many there are then.
-fn more(input: &mut [u8], have: usize) -> usize
-    requires { ⌜ have ≤ length (now input) ⌝ }
-    ensures { λ r. ⌜ (have ≤ r) × (r ≤ length (now (input .entry))) ⌝ }
-{
-    let got = libc::read(STDIN_FILENO, &mut input[have..]);
-    have + io::count(got, &input[have..])
 }
 
 fn start() -> Session
@@ -446,7 +300,7 @@ fn go_on(
 {
     let have = last.have;
     let mut s = last.session;
-    let all = more(input, have);
+    let all = chunks::more(input, have);
     if all == have {
         s.over = true;
         return Round {
@@ -466,7 +320,7 @@ fn go_on(
     output::flush(out, s.at);
     s.at = 0;
     Round {
-        have: keep(input, c.from, all),
+        have: chunks::keep(input, c.from, all),
         session: s,
     }
 }
