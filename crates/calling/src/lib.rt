@@ -25,6 +25,18 @@ pub struct Work {
     pub done: Done,
 }
 
+// The calls that can write.
+enum Call {
+    Put,
+    PutValue,
+    PutAnchor,
+    Format,
+    Spend,
+    Set,
+    AdvanceLamport,
+    Other,
+}
+
 // The seeds on a line.
 struct Seeds {
     ok: bool,
@@ -195,31 +207,45 @@ fn advance_lamport(line: &[u8], e: usize, image: &mut [u8], log: Log, plan: Plan
     telling(clock::advance_lamport(image, log, plan, x[0]))
 }
 
+// Which call a word names.
+fn call_of(word: &[u8]) -> Call {
+    if words::is_same(word, b"put") {
+        return Call::Put;
+    }
+    if words::is_same(word, b"put_value") {
+        return Call::PutValue;
+    }
+    if words::is_same(word, b"put_anchor") {
+        return Call::PutAnchor;
+    }
+    if words::is_same(word, b"format") {
+        return Call::Format;
+    }
+    if words::is_same(word, b"spend") {
+        return Call::Spend;
+    }
+    if words::is_same(word, b"set") {
+        return Call::Set;
+    }
+    if words::is_same(word, b"advance_lamport") {
+        return Call::AdvanceLamport;
+    }
+    Call::Other
+}
+
 // A line whose first word ends at `e`, if it is a call that can write.
 pub fn write(line: &[u8], e: usize, image: &mut [u8], log: Log, plan: Plan) -> Work
     requires { ⌜ e ≤ length (now line) ⌝ }
 {
-    let word = &line[0..e];
-    if words::is_same(word, b"put") {
-        return put(line, e, image, log, plan);
+    let call = call_of(&line[0..e]);
+    match call {
+        Call::Put => put(line, e, image, log, plan),
+        Call::PutValue => put_value(line, e, image, log, plan),
+        Call::PutAnchor => put_anchor(line, e, image, log, plan),
+        Call::Format => format(line, e, image, log, plan),
+        Call::Spend => spend(line, e, image, log, plan),
+        Call::Set => set(line, e, image, log, plan),
+        Call::AdvanceLamport => advance_lamport(line, e, image, log, plan),
+        Call::Other => unwritten(log, plan),
     }
-    if words::is_same(word, b"put_value") {
-        return put_value(line, e, image, log, plan);
-    }
-    if words::is_same(word, b"put_anchor") {
-        return put_anchor(line, e, image, log, plan);
-    }
-    if words::is_same(word, b"format") {
-        return format(line, e, image, log, plan);
-    }
-    if words::is_same(word, b"spend") {
-        return spend(line, e, image, log, plan);
-    }
-    if words::is_same(word, b"set") {
-        return set(line, e, image, log, plan);
-    }
-    if words::is_same(word, b"advance_lamport") {
-        return advance_lamport(line, e, image, log, plan);
-    }
-    unwritten(log, plan)
 }

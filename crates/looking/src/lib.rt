@@ -1,8 +1,9 @@
-// The lines that look at the image: open, dump and list; and the line that is written of a call that leaves it as it is.
+// The line that is written of a call; and the lines that look at the image: open, dump and list.
 use board::Board;
 use board::Reply;
 use board::Step;
 use board::Value;
+use performing::Done;
 ghost use mathlib.Core.Path.{_≡_};
 ghost use Prim.Native.Nat.{_≤_};
 ghost use lib.ListN.{length};
@@ -18,6 +19,36 @@ pub fn answered(out: &mut [u8], at: usize, r: Reply, board: Board) -> usize
     let log = board.log;
     let a = answers::answer(out, at, basics::number(answer), value, 0, 0, plan, log);
     output::byte(out, a, b'\n')
+}
+
+// The line of a call that may have changed the image.
+pub fn worked(
+    out: &mut [u8],
+    at: usize,
+    value: Value,
+    d: Done,
+    before: &[u8],
+    image: &[u8],
+) -> usize
+    requires { ⌜ (64 ≤ length (now out)) × (at ≤ length (now out)) ⌝ }
+    requires { ⌜ length (now before) ≡ length (now image) ⌝ }
+    ensures { λ r. ⌜ r ≤ length (now (out .entry)) ⌝ }
+{
+    let answer = d.answer;
+    let plan = d.plan;
+    let log = d.log;
+    let a = answers::answer(
+        out,
+        at,
+        basics::number(answer),
+        value,
+        d.programmed,
+        d.erased,
+        plan,
+        log,
+    );
+    let b = changes::changes(out, a, before, image);
+    output::byte(out, b, b'\n')
 }
 
 fn open(image: &[u8], out: &mut [u8], at: usize, board: Board) -> Step

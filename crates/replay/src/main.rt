@@ -3,62 +3,16 @@
 use board::Board;
 use board::SPACE;
 use board::Step;
-use calling::Work;
-use flash::Plan;
-use records::State;
+use sessions::Chunk;
+use sessions::Round;
+use sessions::Session;
 ghost use mathlib.Core.Path.{_≡_};
 ghost use Prim.Native.Nat.{_≤_};
 ghost use lib.ListN.{length};
-ghost use Rattle.replay.specs.Limits.{Sound};
+ghost use Rattle.sessions.specs.Limits.{Sound};
 
 // The most characters of a line.
 const LINE: usize = 16384;
-
-// How far a script is: its lines so far, where the text in the buffer ends, whether a line couldn't be read, the board, and the one kept.
-pub struct Session {
-    pub lines: u64,
-    pub at: usize,
-    pub over: bool,
-    pub now: Board,
-    pub kept: Board,
-}
-
-// A session, and the place behind the last whole line of a chunk.
-pub struct Chunk {
-    pub from: usize,
-    pub session: Session,
-}
-
-// The bytes at the front of the input that are still to be read, and the session.
-pub struct Round {
-    pub have: usize,
-    pub session: Session,
-}
-
-// The line of a call that may have changed the image.
-fn worked(out: &mut [u8], at: usize, w: Work, before: &[u8], image: &[u8]) -> usize
-    requires { ⌜ (64 ≤ length (now out)) × (at ≤ length (now out)) ⌝ }
-    requires { ⌜ length (now before) ≡ length (now image) ⌝ }
-    ensures { λ r. ⌜ r ≤ length (now (out .entry)) ⌝ }
-{
-    let value = w.value;
-    let d = w.done;
-    let answer = d.answer;
-    let plan = d.plan;
-    let log = d.log;
-    let a = answers::answer(
-        out,
-        at,
-        basics::number(answer),
-        value,
-        d.programmed,
-        d.erased,
-        plan,
-        log,
-    );
-    let b = changes::changes(out, a, before, image);
-    output::byte(out, b, b'\n')
-}
 
 // A call that can write. The image is copied first, so that what changed is seen.
 fn write(
@@ -86,6 +40,7 @@ fn write(
             board: board,
         };
     }
+    let value = w.value;
     let d = w.done;
     let p = d.plan;
     let l = d.log;
@@ -96,7 +51,7 @@ fn write(
     };
     Step {
         ok: true,
-        at: worked(out, at, w, before, image),
+        at: looking::worked(out, at, value, d, before, image),
         board: new,
     }
 }
@@ -174,43 +129,17 @@ fn turn(
     requires { ⌜ Sound session (length (now out)) ⌝ }
     ensures { λ r. ⌜ Sound r (length (now (out .entry))) ⌝ }
 {
-    let mut s = session;
-    s.lines = std::num::wrapping_add_u64(s.lines, 1);
-    if line.len() == 0 {
-        return s;
-    }
-    if line[0] == b'#' {
+    let k = sessions::keeping(line, image, saved, session);
+    let mut s = k.session;
+    if k.ok {
         return s;
     }
     let now = s.now;
-    let kept = s.kept;
-    if words::is_same(line, b"save") {
-        let n = now.len;
-        changes::copy(&image[0..n], saved);
-        s.kept = now;
-        return s;
-    }
-    if words::is_same(line, b"restore") {
-        let n = kept.len;
-        changes::copy(&saved[0..n], image);
-        s.now = kept;
-        return s;
-    }
     let r = work(line, image, before, out, s.at, now);
     let new = r.board;
     s.now = new;
     s.at = r.at;
     s.over = !r.ok;
-    s
-}
-
-// A line that is too long can't be read.
-fn too_long(session: Session) -> Session
-    ensures { λ r. ⌜ (r .at ≡ session .at) × (r .now .len ≡ session .now .len) × (r .kept .len ≡ session .kept .len) ⌝ }
-{
-    let mut s = session;
-    s.lines = std::num::wrapping_add_u64(s.lines, 1);
-    s.over = true;
     s
 }
 
@@ -233,7 +162,7 @@ fn whole_lines(
     while from < text.len() {
         let to = chunks::until(text, from, b'\n');
         if LINE < to - from {
-            s = too_long(s);
+            s = sessions::too_long(s);
             break;
         }
         if to == text.len() {
@@ -252,38 +181,6 @@ fn whole_lines(
     }
 }
 
-fn start() -> Session
-    ensures { λ r. ⌜ Sound r 0 ⌝ }
-{
-    let plan = Plan {
-        limited: false,
-        units: 0,
-        refuse_erase: false,
-        refuse_programs: 0,
-    };
-    let log = records::empty(State::Unformatted, 1);
-    let board = Board {
-        len: 0,
-        plan: plan,
-        log: log,
-    };
-    Session {
-        lines: 0,
-        at: 0,
-        over: false,
-        now: board,
-        kept: board,
-    }
-}
-
-fn bad_line(out: &mut [u8], at: usize, n: u64)
-    requires { ⌜ (64 ≤ length (now out)) × (at ≤ length (now out)) ⌝ }
-{
-    let a = output::bytes(out, at, b"bad line ");
-    let b = output::field(out, a, n, b'\n');
-    output::flush(out, b);
-}
-
 // One read, and the whole lines that there are then. The end of the input ends the session.
 fn go_on(
     input: &mut [u8],
@@ -299,30 +196,13 @@ fn go_on(
     ensures { λ r. ⌜ (r .have ≤ length (now (input .entry))) × Sound (r .session) (length (now (out .entry))) ⌝ }
 {
     let have = last.have;
-    let mut s = last.session;
+    let s = last.session;
     let all = chunks::more(input, have);
     if all == have {
-        s.over = true;
-        return Round {
-            have: 0,
-            session: s,
-        };
+        return sessions::ended(s);
     }
     let c = whole_lines(&input[0..all], image, saved, before, out, s);
-    s = c.session;
-    if s.over {
-        bad_line(out, s.at, s.lines);
-        return Round {
-            have: 0,
-            session: s,
-        };
-    }
-    output::flush(out, s.at);
-    s.at = 0;
-    Round {
-        have: chunks::keep(input, c.from, all),
-        session: s,
-    }
+    sessions::rest(input, all, out, c)
 }
 
 // Round after round. A proved loop has to end, and nothing says that an input does: so it counts down from a number that no run uses up.
@@ -330,7 +210,7 @@ fn replay(input: &mut [u8], image: &mut [u8], saved: &mut [u8], before: &mut [u8
     requires { ⌜ (65536 ≤ length (now image)) × (65536 ≤ length (now saved)) ⌝ }
     requires { ⌜ (65536 ≤ length (now before)) × (64 ≤ length (now out)) ⌝ }
 {
-    let s = start();
+    let s = sessions::start();
     let mut r = Round {
         have: 0,
         session: s,

@@ -1,6 +1,6 @@
 -- A session whose places lie in the buffers.
 use Prim.Native.Nat.{ℕ, _≤_}
-use Rattle.replay.specs.declared.Session.{Session}
+use Rattle.sessions.specs.declared.Session.{Session}
 
 -- the text ends in a buffer of this size, and both images in theirs
 abbrev pub Sound : Session → ℕ → Type 0
