@@ -5,18 +5,18 @@ use board::Value;
 use flash::Plan;
 use ids::Anchor;
 use ids::CounterState;
-use numbers::MAX_8;
-use numbers::MAX_16;
-use numbers::MAX_32;
-use numbers::MAX_64;
-use numbers::Numbers;
+use arguments::MAX_8;
+use arguments::MAX_16;
+use arguments::MAX_32;
+use arguments::MAX_64;
+use arguments::Numbers;
 use performing::Done;
 use records::Log;
 use seeding::Seed;
 ghost use mathlib.Core.List.{_∷_, []};
 ghost use Prim.Native.Nat.{_≤_};
 ghost use lib.ListN.{length};
-ghost use Rattle.numbers.specs.Limits.{Within};
+ghost use Rattle.arguments.specs.Limits.{Within};
 
 // What a call on an image answered.
 pub struct Work {
@@ -76,7 +76,7 @@ fn telling(done: Done) -> Work {
 }
 
 fn put(line: &[u8], e: usize, image: &mut [u8], log: Log, plan: Plan) -> Work {
-    let n = numbers::all_numbers(line, e, [MAX_8, MAX_8, MAX_32, MAX_32], 4);
+    let n = arguments::all_numbers(line, e, [MAX_8, MAX_8, MAX_32, MAX_32], 4);
     if !n.ok {
         return unwritten(log, plan);
     }
@@ -90,7 +90,7 @@ fn put(line: &[u8], e: usize, image: &mut [u8], log: Log, plan: Plan) -> Work {
 }
 
 fn put_value(line: &[u8], e: usize, image: &mut [u8], log: Log, plan: Plan) -> Work {
-    let n = numbers::all_numbers(line, e, [MAX_8, MAX_64, 0, 0], 2);
+    let n = arguments::all_numbers(line, e, [MAX_8, MAX_64, 0, 0], 2);
     if !n.ok {
         return unwritten(log, plan);
     }
@@ -99,7 +99,7 @@ fn put_value(line: &[u8], e: usize, image: &mut [u8], log: Log, plan: Plan) -> W
 }
 
 fn put_anchor(line: &[u8], e: usize, image: &mut [u8], log: Log, plan: Plan) -> Work {
-    let n = numbers::all_numbers(line, e, [MAX_16, MAX_64, MAX_16, 0], 3);
+    let n = arguments::all_numbers(line, e, [MAX_16, MAX_64, MAX_16, 0], 3);
     if !n.ok {
         return unwritten(log, plan);
     }
@@ -148,7 +148,7 @@ fn seeds_at(line: &[u8], at: usize) -> Seeds {
                 seeds: seeds,
             };
         }
-        let n = numbers::some_numbers(line, from, [MAX_8, MAX_8, MAX_32, MAX_32], 4);
+        let n = arguments::some_numbers(line, from, [MAX_8, MAX_8, MAX_32, MAX_32], 4);
         if !n.ok {
             return Seeds {
                 ok: false,
@@ -167,7 +167,7 @@ fn seeds_at(line: &[u8], at: usize) -> Seeds {
 }
 
 fn format(line: &[u8], e: usize, image: &mut [u8], log: Log, plan: Plan) -> Work {
-    let n = numbers::some_numbers(line, e, [MAX_64, 0, 0, 0], 1);
+    let n = arguments::some_numbers(line, e, [MAX_64, 0, 0, 0], 1);
     let s = seeds_at(line, n.next);
     if !n.ok {
         return unwritten(log, plan);
@@ -181,7 +181,7 @@ fn format(line: &[u8], e: usize, image: &mut [u8], log: Log, plan: Plan) -> Work
 }
 
 fn spend(line: &[u8], e: usize, image: &mut [u8], log: Log, plan: Plan) -> Work {
-    let n = numbers::all_numbers(line, e, [MAX_8, MAX_8, 0, 0], 2);
+    let n = arguments::all_numbers(line, e, [MAX_8, MAX_8, 0, 0], 2);
     if !n.ok {
         return unwritten(log, plan);
     }
@@ -190,7 +190,7 @@ fn spend(line: &[u8], e: usize, image: &mut [u8], log: Log, plan: Plan) -> Work 
 }
 
 fn set(line: &[u8], e: usize, image: &mut [u8], log: Log, plan: Plan) -> Work {
-    let n = numbers::all_numbers(line, e, [MAX_8, MAX_8, 0, 0], 2);
+    let n = arguments::all_numbers(line, e, [MAX_8, MAX_8, 0, 0], 2);
     if !n.ok {
         return unwritten(log, plan);
     }
@@ -199,7 +199,7 @@ fn set(line: &[u8], e: usize, image: &mut [u8], log: Log, plan: Plan) -> Work {
 }
 
 fn advance_lamport(line: &[u8], e: usize, image: &mut [u8], log: Log, plan: Plan) -> Work {
-    let n = numbers::all_numbers(line, e, [MAX_64, 0, 0, 0], 1);
+    let n = arguments::all_numbers(line, e, [MAX_64, 0, 0, 0], 1);
     if !n.ok {
         return unwritten(log, plan);
     }

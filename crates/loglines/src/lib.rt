@@ -1,15 +1,15 @@
 // A log of a script's own, as a line gives it: the state, the next seq, the count, and the records of the table.
 // A line that can't be read has `ok` false.
 use codec::Raw;
-use numbers::MAX_32;
-use numbers::MAX_64;
-use numbers::Numbers;
+use arguments::MAX_32;
+use arguments::MAX_64;
+use arguments::Numbers;
 use records::LIMIT;
 use records::Log;
 use records::State;
 use script::Past;
 ghost use mathlib.Core.List.{_∷_, []};
-ghost use Rattle.numbers.specs.Limits.{Within};
+ghost use Rattle.arguments.specs.Limits.{Within};
 
 pub struct LogRead {
     pub ok: bool,
@@ -34,7 +34,7 @@ struct RecordRead {
 }
 
 fn active_at(line: &[u8], at: usize) -> StateRead {
-    let n = numbers::some_numbers(line, at, [MAX_32, MAX_32, MAX_32, 0], 3);
+    let n = arguments::some_numbers(line, at, [MAX_32, MAX_32, MAX_32, 0], 3);
     let x = n.x;
     let state = State::Active {
         sector: x[0] as u32,
@@ -78,7 +78,7 @@ fn named(line: &[u8], at: usize, word: &[u8], most: u64) -> Numbers
     ensures { λ r. ⌜ Within (r .x) (most ∷ 0 ∷ 0 ∷ 0 ∷ []) ⌝ }
 {
     match words::skip(line, at, word) {
-        Past::At(next) => numbers::some_numbers(line, next, [most, 0, 0, 0], 1),
+        Past::At(next) => arguments::some_numbers(line, next, [most, 0, 0, 0], 1),
         Past::Refused => Numbers {
             ok: false,
             next: at,

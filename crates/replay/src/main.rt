@@ -51,7 +51,7 @@ fn write(
     };
     Step {
         ok: true,
-        at: looking::worked(out, at, value, d, before, image),
+        at: showing::worked(out, at, value, d, before, image),
         board: new,
     }
 }
@@ -72,15 +72,15 @@ fn call(
     ensures { λ r. ⌜ (r .at ≤ length (now (out .entry))) × (r .board .len ≡ board .len) ⌝ }
 {
     let log = board.log;
-    let r = asking::read(line, e, log);
+    let r = queries::read(line, e, log);
     if r.ok {
         return Step {
             ok: true,
-            at: looking::answered(out, at, r, board),
+            at: showing::answered(out, at, r, board),
             board: board,
         };
     }
-    let s = looking::look(line, image, out, at, board);
+    let s = showing::look(line, image, out, at, board);
     if s.ok {
         return s;
     }

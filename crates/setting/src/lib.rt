@@ -2,8 +2,8 @@
 use board::Board;
 use board::SPACE;
 use flash::Plan;
-use numbers::MAX_32;
-use numbers::MAX_64;
+use arguments::MAX_32;
+use arguments::MAX_64;
 use records::Log;
 use script::Past;
 use script::Taken;
@@ -23,7 +23,7 @@ struct PlanRead {
 }
 
 fn plan_rest(line: &[u8], at: usize, limited: bool, units: u64) -> PlanRead {
-    let n = numbers::all_numbers(line, at, [1, MAX_32, 0, 0], 2);
+    let n = arguments::all_numbers(line, at, [1, MAX_32, 0, 0], 2);
     let x = n.x;
     let plan = Plan {
         limited: limited,
@@ -142,7 +142,7 @@ fn set_image(line: &[u8], at: usize, image: &mut [u8], board: Board) -> Change
 {
     let plan = board.plan;
     let log = board.log;
-    let n = numbers::all_numbers(line, at, [MAX_64, 0, 0, 0], 1);
+    let n = arguments::all_numbers(line, at, [MAX_64, 0, 0, 0], 1);
     let x = n.x;
     let len = size_of(x[0]);
     erase(&mut image[0..len]);

@@ -3,7 +3,7 @@
 use basics::Answer;
 use board::Reply;
 use board::Value;
-use numbers::MAX_8;
+use arguments::MAX_8;
 use reading::Anchored;
 use reading::Counter;
 use reading::Number;
@@ -103,7 +103,7 @@ fn read_none(line: &[u8], e: usize, log: Log) -> Reply
 fn read_one(line: &[u8], e: usize, log: Log) -> Reply
     requires { ⌜ e ≤ length (now line) ⌝ }
 {
-    let n = numbers::all_numbers(line, e, [MAX_8, 0, 0, 0], 1);
+    let n = arguments::all_numbers(line, e, [MAX_8, 0, 0, 0], 1);
     if !n.ok {
         return unread();
     }
@@ -127,7 +127,7 @@ pub fn read(line: &[u8], e: usize, log: Log) -> Reply
     requires { ⌜ e ≤ length (now line) ⌝ }
 {
     if words::is_same(&line[0..e], b"load") {
-        let n = numbers::all_numbers(line, e, [MAX_8, 1, MAX_8, 0], 3);
+        let n = arguments::all_numbers(line, e, [MAX_8, 1, MAX_8, 0], 3);
         if !n.ok {
             return unread();
         }

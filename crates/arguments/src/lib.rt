@@ -2,7 +2,7 @@
 // A line that can't be read has `ok` false.
 use script::Taken;
 ghost use Prim.Native.Nat.{_≤_};
-ghost use Rattle.numbers.specs.Limits.{Within};
+ghost use Rattle.arguments.specs.Limits.{Within};
 
 // The largest numbers of 8, 16, 32 and 64 bits.
 pub const MAX_8: u64 = 255;

@@ -1,13 +1,13 @@
--- `numbers::some_numbers` is safe and ends. The loop's invariant: no number so far is above its limit.
+-- `arguments::some_numbers` is safe and ends. The loop's invariant: no number so far is above its limit.
 use mathlib.Core.Path.{_≡_, refl, sym, _∙_}
 use Prim.Native.Nat.{_-_}
 use native.Mathlib.Omega.{arith}
 use lib.ListN.{length, getD, length-set}
 use borrow.Author.Needs.{needs}
 use Rattle.script.proofs.Behind.{number-fits}
-use Rattle.numbers.proofs.Bounds.{Below, below-zeros, below-set}
-use Rattle.numbers.proofs.some_numbers.Statement.{statement}
-use Rattle.numbers.proofs.some_numbers.Tie as tie
+use Rattle.arguments.proofs.Bounds.{Below, below-zeros, below-set}
+use Rattle.arguments.proofs.some_numbers.Statement.{statement}
+use Rattle.arguments.proofs.some_numbers.Tie as tie
 
 abbrev Inv-loop : tie.InvT-loop
 Inv-loop line at count most x₀ next₀ i₀ x next i = (length x ≡ 4) × Below x most

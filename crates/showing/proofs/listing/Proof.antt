@@ -1,9 +1,9 @@
--- `looking::listing` meets its contract: what `list` put lies in the buffer.
+-- `showing::listing` meets its contract: what `list` put lies in the buffer.
 use native.Mathlib.Omega.{arith}
 use borrow.Author.Needs.{needs}
 use Rattle.text.proofs.Putting.{put-within}
-use Rattle.looking.proofs.listing.Statement.{statement}
-use Rattle.looking.proofs.listing.Tie as tie
+use Rattle.showing.proofs.listing.Statement.{statement}
+use Rattle.showing.proofs.listing.Tie as tie
 
 flush-requires : tie.Need-flush-requires
 flush-requires c κs = search needs
