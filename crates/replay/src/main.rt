@@ -1,165 +1,18 @@
 // Replays the script on standard input: does its calls one by one, and writes what each answered on standard output.
 // The input comes in chunks; what a chunk has of a line without its end waits for the next.
-mod answers;
-mod calls;
-mod lines;
-mod output;
-
-use crate::answers::Value;
-use crate::calls::Reply;
-use crate::calls::Work;
-use crate::lines::Board;
-use crate::lines::SPACE;
-use basics::Answer;
-use flash::Plan;
-use libc::STDIN_FILENO;
-use records::State;
+use board::Board;
+use board::SPACE;
+use board::Step;
+use sessions::Chunk;
+use sessions::Round;
+use sessions::Session;
 ghost use mathlib.Core.Path.{_≡_};
-ghost use Prim.Native.Nat.{_≤_, _<_};
+ghost use Prim.Native.Nat.{_≤_};
 ghost use lib.ListN.{length};
-ghost use Rattle.replay.specs.Limits.{Sound};
+ghost use Rattle.sessions.specs.Limits.{Sound};
 
 // The most characters of a line.
 const LINE: usize = 16384;
-
-// What a line made of the board, and where the text in the buffer ends.
-pub struct Step {
-    pub ok: bool,
-    pub at: usize,
-    pub board: Board,
-}
-
-// How far a script is: its lines so far, where the text in the buffer ends, whether a line couldn't be read, the board, and the one kept.
-pub struct Session {
-    pub lines: u64,
-    pub at: usize,
-    pub over: bool,
-    pub now: Board,
-    pub kept: Board,
-}
-
-// A session, and the place behind the last whole line of a chunk.
-pub struct Chunk {
-    pub from: usize,
-    pub session: Session,
-}
-
-// The bytes at the front of the input that are still to be read, and the session.
-pub struct Round {
-    pub have: usize,
-    pub session: Session,
-}
-
-fn copy(from: &[u8], to: &mut [u8])
-    requires { ⌜ length (now from) ≤ length (now to) ⌝ }
-{
-    let mut i: usize = 0;
-    while i < from.len() {
-        to[i] = from[i];
-        i += 1;
-    }
-}
-
-// The line of a call that leaves the image as it is.
-fn answered(out: &mut [u8], at: usize, r: Reply, board: Board) -> usize
-    requires { ⌜ (64 ≤ length (now out)) × (at ≤ length (now out)) ⌝ }
-    ensures { λ e. ⌜ e ≤ length (now (out .entry)) ⌝ }
-{
-    let answer = r.answer;
-    let value = r.value;
-    let plan = board.plan;
-    let log = board.log;
-    let a = answers::answer(out, at, basics::number(answer), value, 0, 0, plan, log);
-    output::byte(out, a, b'\n')
-}
-
-fn open(image: &[u8], out: &mut [u8], at: usize, board: Board) -> Step
-    requires { ⌜ (64 ≤ length (now out)) × (at ≤ length (now out)) ⌝ }
-    ensures { λ r. ⌜ (r .at ≤ length (now (out .entry))) × (r .board .len ≡ board .len) ⌝ }
-{
-    let o = opening::open(image);
-    let answer = o.answer;
-    let log = o.log;
-    let plan = board.plan;
-    let new = Board {
-        len: board.len,
-        plan: plan,
-        log: log,
-    };
-    let r = Reply {
-        ok: true,
-        answer: answer,
-        value: Value::Dash,
-    };
-    Step {
-        ok: true,
-        at: answered(out, at, r, new),
-        board: new,
-    }
-}
-
-// The listing of the image. It begins a buffer, so what stands there is written first.
-fn listing(image: &[u8], out: &mut [u8], at: usize) -> usize
-    requires { ⌜ at ≤ length (now out) ⌝ }
-    ensures { λ r. ⌜ r ≤ length (now (out .entry)) ⌝ }
-{
-    output::flush(out, at);
-    list::list(image, out)
-}
-
-// A line that looks at the image, if it is one of these.
-fn look(line: &[u8], image: &[u8], out: &mut [u8], at: usize, board: Board) -> Step
-    requires { ⌜ (64 ≤ length (now out)) × (at ≤ length (now out)) ⌝ }
-    ensures { λ r. ⌜ (r .at ≤ length (now (out .entry))) × (r .board .len ≡ board .len) ⌝ }
-{
-    if script::is_same(line, b"open") {
-        return open(image, out, at, board);
-    }
-    if script::is_same(line, b"dump") {
-        return Step {
-            ok: true,
-            at: answers::dump(out, at, image),
-            board: board,
-        };
-    }
-    if script::is_same(line, b"list") {
-        return Step {
-            ok: true,
-            at: listing(image, out, at),
-            board: board,
-        };
-    }
-    Step {
-        ok: false,
-        at: at,
-        board: board,
-    }
-}
-
-// The line of a call that may have changed the image.
-fn worked(out: &mut [u8], at: usize, w: Work, before: &[u8], image: &[u8]) -> usize
-    requires { ⌜ (64 ≤ length (now out)) × (at ≤ length (now out)) ⌝ }
-    requires { ⌜ length (now before) ≡ length (now image) ⌝ }
-    ensures { λ r. ⌜ r ≤ length (now (out .entry)) ⌝ }
-{
-    let value = w.value;
-    let d = w.done;
-    let answer = d.answer;
-    let plan = d.plan;
-    let log = d.log;
-    let a = answers::answer(
-        out,
-        at,
-        basics::number(answer),
-        value,
-        d.programmed,
-        d.erased,
-        plan,
-        log,
-    );
-    let b = answers::changes(out, a, before, image);
-    output::byte(out, b, b'\n')
-}
 
 // A call that can write. The image is copied first, so that what changed is seen.
 fn write(
@@ -178,8 +31,8 @@ fn write(
 {
     let log = board.log;
     let plan = board.plan;
-    copy(image, before);
-    let w = calls::write(line, e, image, log, plan);
+    changes::copy(image, before);
+    let w = calling::write(line, e, image, log, plan);
     if !w.ok {
         return Step {
             ok: false,
@@ -187,6 +40,7 @@ fn write(
             board: board,
         };
     }
+    let value = w.value;
     let d = w.done;
     let p = d.plan;
     let l = d.log;
@@ -197,17 +51,9 @@ fn write(
     };
     Step {
         ok: true,
-        at: worked(out, at, w, before, image),
+        at: showing::worked(out, at, value, d, before, image),
         board: new,
     }
-}
-
-// Where the first `stop` stands from `from` on, or the text's end.
-fn until(text: &[u8], from: usize, stop: u8) -> usize
-    requires { ⌜ from ≤ length (now text) ⌝ }
-    ensures { λ r. ⌜ (from ≤ r) × (r ≤ length (now (text .entry))) ⌝ }
-{
-    script::end(text, from, stop)
 }
 
 // Any call, and the lines that show the image. One that nothing reads is not ok.
@@ -226,15 +72,15 @@ fn call(
     ensures { λ r. ⌜ (r .at ≤ length (now (out .entry))) × (r .board .len ≡ board .len) ⌝ }
 {
     let log = board.log;
-    let r = calls::read(line, e, log);
+    let r = queries::read(line, e, log);
     if r.ok {
         return Step {
             ok: true,
-            at: answered(out, at, r, board),
+            at: showing::answered(out, at, r, board),
             board: board,
         };
     }
-    let s = look(line, image, out, at, board);
+    let s = showing::look(line, image, out, at, board);
     if s.ok {
         return s;
     }
@@ -255,9 +101,9 @@ fn work(
     requires { ⌜ board .len ≤ 65536 ⌝ }
     ensures { λ r. ⌜ (r .at ≤ length (now (out .entry))) × (r .board .len ≤ 65536) ⌝ }
 {
-    let e = until(line, 0, b' ');
+    let e = chunks::until(line, 0, b' ');
     let n = board.len;
-    let s = lines::setting(line, e, image, board);
+    let s = setting::setting(line, e, image, board);
     if s.ok {
         let new = s.board;
         return Step {
@@ -283,57 +129,17 @@ fn turn(
     requires { ⌜ Sound session (length (now out)) ⌝ }
     ensures { λ r. ⌜ Sound r (length (now (out .entry))) ⌝ }
 {
-    let mut s = session;
-    s.lines = std::num::wrapping_add_u64(s.lines, 1);
-    if line.len() == 0 {
-        return s;
-    }
-    if line[0] == b'#' {
+    let k = sessions::keeping(line, image, saved, session);
+    let mut s = k.session;
+    if k.ok {
         return s;
     }
     let now = s.now;
-    let kept = s.kept;
-    if script::is_same(line, b"save") {
-        let n = now.len;
-        copy(&image[0..n], saved);
-        s.kept = now;
-        return s;
-    }
-    if script::is_same(line, b"restore") {
-        let n = kept.len;
-        copy(&saved[0..n], image);
-        s.now = kept;
-        return s;
-    }
     let r = work(line, image, before, out, s.at, now);
     let new = r.board;
     s.now = new;
     s.at = r.at;
     s.over = !r.ok;
-    s
-}
-
-// Where a line ends without a space at its end.
-fn trimmed(text: &[u8], from: usize, to: usize) -> usize
-    requires { ⌜ (from ≤ to) × (to ≤ length (now text)) ⌝ }
-    ensures { λ r. ⌜ (from ≤ r) × (r ≤ to) ⌝ }
-{
-    if from == to {
-        return to;
-    }
-    if text[to - 1] == b' ' {
-        return to - 1;
-    }
-    to
-}
-
-// A line that is too long can't be read.
-fn too_long(session: Session) -> Session
-    ensures { λ r. ⌜ (r .at ≡ session .at) × (r .now .len ≡ session .now .len) × (r .kept .len ≡ session .kept .len) ⌝ }
-{
-    let mut s = session;
-    s.lines = std::num::wrapping_add_u64(s.lines, 1);
-    s.over = true;
     s
 }
 
@@ -354,15 +160,15 @@ fn whole_lines(
     let mut s = session;
     let mut from: usize = 0;
     while from < text.len() {
-        let to = until(text, from, b'\n');
+        let to = chunks::until(text, from, b'\n');
         if LINE < to - from {
-            s = too_long(s);
+            s = sessions::too_long(s);
             break;
         }
         if to == text.len() {
             break;
         }
-        let end = trimmed(text, from, to);
+        let end = chunks::trimmed(text, from, to);
         s = turn(&text[from..end], image, saved, before, out, s);
         if s.over {
             break;
@@ -373,61 +179,6 @@ fn whole_lines(
         from: from,
         session: s,
     }
-}
-
-// The bytes from `from` to `to`, moved to the front; answers how many they are.
-fn keep(input: &mut [u8], from: usize, to: usize) -> usize
-    requires { ⌜ (from ≤ to) × (to ≤ length (now input)) ⌝ }
-    ensures { λ r. ⌜ r ≤ length (now (input .entry)) ⌝ }
-{
-    let n = to - from;
-    let mut i: usize = 0;
-    while i < n {
-        input[i] = input[from + i];
-        i += 1;
-    }
-    n
-}
-
-// One read behind the first `have` bytes; answers how many there are then.
-fn more(input: &mut [u8], have: usize) -> usize
-    requires { ⌜ have ≤ length (now input) ⌝ }
-    ensures { λ r. ⌜ (have ≤ r) × (r ≤ length (now (input .entry))) ⌝ }
-{
-    let got = libc::read(STDIN_FILENO, &mut input[have..]);
-    have + io::count(got, &input[have..])
-}
-
-fn start() -> Session
-    ensures { λ r. ⌜ Sound r 0 ⌝ }
-{
-    let plan = Plan {
-        limited: false,
-        units: 0,
-        refuse_erase: false,
-        refuse_programs: 0,
-    };
-    let log = records::empty(State::Unformatted, 1);
-    let board = Board {
-        len: 0,
-        plan: plan,
-        log: log,
-    };
-    Session {
-        lines: 0,
-        at: 0,
-        over: false,
-        now: board,
-        kept: board,
-    }
-}
-
-fn bad_line(out: &mut [u8], at: usize, n: u64)
-    requires { ⌜ (64 ≤ length (now out)) × (at ≤ length (now out)) ⌝ }
-{
-    let a = output::bytes(out, at, b"bad line ");
-    let b = output::field(out, a, n, b'\n');
-    output::flush(out, b);
 }
 
 // One read, and the whole lines that there are then. The end of the input ends the session.
@@ -445,30 +196,13 @@ fn go_on(
     ensures { λ r. ⌜ (r .have ≤ length (now (input .entry))) × Sound (r .session) (length (now (out .entry))) ⌝ }
 {
     let have = last.have;
-    let mut s = last.session;
-    let all = more(input, have);
+    let s = last.session;
+    let all = chunks::more(input, have);
     if all == have {
-        s.over = true;
-        return Round {
-            have: 0,
-            session: s,
-        };
+        return sessions::ended(s);
     }
     let c = whole_lines(&input[0..all], image, saved, before, out, s);
-    s = c.session;
-    if s.over {
-        bad_line(out, s.at, s.lines);
-        return Round {
-            have: 0,
-            session: s,
-        };
-    }
-    output::flush(out, s.at);
-    s.at = 0;
-    Round {
-        have: keep(input, c.from, all),
-        session: s,
-    }
+    sessions::rest(input, all, out, c)
 }
 
 // Round after round. A proved loop has to end, and nothing says that an input does: so it counts down from a number that no run uses up.
@@ -476,7 +210,7 @@ fn replay(input: &mut [u8], image: &mut [u8], saved: &mut [u8], before: &mut [u8
     requires { ⌜ (65536 ≤ length (now image)) × (65536 ≤ length (now saved)) ⌝ }
     requires { ⌜ (65536 ≤ length (now before)) × (64 ≤ length (now out)) ⌝ }
 {
-    let s = start();
+    let s = sessions::start();
     let mut r = Round {
         have: 0,
         session: s,

@@ -1,0 +1,2 @@
+-- Laws that the proofs of numbers cite.
+pub mod Bounds

@@ -1,0 +1,2 @@
+-- What is promised of the numbers of a line.
+pub mod Limits
