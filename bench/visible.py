@@ -2,7 +2,7 @@
 
     python3 bench/visible.py MACHINE MODULE.ll OUT.ll
 
-For another machine than x86_64 what names x86-64 is left out, so that clang puts its own there."""
+For another machine than x86_64 the module is made that machine's, and what else names x86-64 is left out."""
 
 import re
 import sys
@@ -20,9 +20,10 @@ def visible(text):
     return text.replace("@main(", "@spoolewe_main(")
 
 
-def portable(text):
-    """The module without the words that tie it to x86-64."""
-    text = re.sub(r"^target (triple|datalayout) = .*\n", "", text, flags=re.M)
+def moved(text, machine):
+    """The module as one for another machine."""
+    text = re.sub(r"^target datalayout = .*\n", "", text, flags=re.M)
+    text = re.sub(r"^target triple = .*", f'target triple = "{machine}-unknown-linux-gnu"', text, flags=re.M)
     return re.sub(r' "(target-cpu|target-features|tune-cpu)"="[^"]*"', "", text)
 
 
@@ -31,7 +32,7 @@ def main():
     with open(source, encoding="utf-8") as f:
         text = visible(f.read())
     with open(out, "w", encoding="utf-8") as f:
-        f.write(text if machine == "x86_64" else portable(text))
+        f.write(text if machine == "x86_64" else moved(text, machine))
 
 
 main()

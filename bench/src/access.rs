@@ -1,6 +1,7 @@
 
 // ---- What bench/run appends to the text of retry_counter.rs: the trait that it takes from its crate, and a
-// module that stands below it and so reaches its private parts. It holds a plain flash without a fault plan.
+// module that stands below it and so reaches its private parts. It holds a plain flash without a fault plan, and
+// the work that is timed: here, so that the compiler sees it in one crate with the source, as the firmware has it.
 
 pub mod storage {
     /// The firmware's key store, of which retry_counter.rs uses this alone.
@@ -11,6 +12,7 @@ pub mod storage {
 
 pub mod access {
     use super::*;
+    use std::hint::black_box;
 
     const SECTOR: usize = pico2hsm_core::flash::SECTOR_SIZE;
 
@@ -45,6 +47,27 @@ pub mod access {
     impl crate::storage::KeyStore for RustLog<'_> {
         fn retry_counters(&mut self) -> Option<&mut dyn RetryCounterBackend> {
             Some(self)
+        }
+    }
+
+    pub fn open(image: &mut [u8]) -> RustLog<'_> {
+        let sectors = (image.len() / SECTOR) as u32;
+        CounterLog::open(Flash(image), sectors)
+    }
+
+    pub fn openings(image: &mut [u8], count: usize) {
+        for _ in 0..count {
+            black_box(open(black_box(&mut *image)));
+        }
+    }
+
+    /// A spend for each place of `answers`; after a 0 the tries are set back.
+    pub fn spends(log: &mut RustLog, cred: Credential, answers: &mut [u8]) {
+        for answer in answers {
+            *answer = spend(log, cred, 255).expect("a spend was refused");
+            if *answer == 0 {
+                set(log, cred, 255).expect("a set was refused");
+            }
         }
     }
 

@@ -2,7 +2,7 @@
 
 use crc32fast::Hasher;
 
-pub const SECTORS: usize = 16;
+const SECTORS: usize = 16;
 const SECTOR: usize = 4096;
 const SLOT: usize = 16;
 

@@ -8,8 +8,8 @@ mod ours;
 
 use std::hint::black_box;
 
-use retry_counter::access::{self, Flash, Held, RustLog};
-use retry_counter::{CounterLog, Credential};
+use retry_counter::Credential;
+use retry_counter::access::{self, Held};
 
 const KEYS: [usize; 3] = [1, 7, 32];
 const SPENDS: usize = 10_000;
@@ -19,32 +19,13 @@ const ROUNDS: usize = 101;
 const FEWEST_ROUNDS: usize = 31;
 const SPENT: Credential = Credential::ScHsmUserPin;
 
-// ---- the two sides
-
-fn rust_open(image: &mut [u8]) -> RustLog<'_> {
-    CounterLog::open(Flash(image), images::SECTORS as u32)
-}
-
-fn rust_openings(image: &mut [u8]) {
-    for _ in 0..OPENINGS {
-        black_box(rust_open(black_box(&mut *image)));
-    }
-}
+// ---- our side; that of the Rust stands in access.rs
 
 fn our_openings(image: &mut [u8]) {
     let mut opened = ours::unopened();
     for _ in 0..OPENINGS {
         ours::open(black_box(&*image), &mut opened);
         black_box(&mut opened);
-    }
-}
-
-fn rust_spends(log: &mut RustLog, answers: &mut [u8]) {
-    for answer in answers {
-        *answer = retry_counter::spend(log, SPENT, 255).expect("a spend was refused");
-        if *answer == 0 {
-            retry_counter::set(log, SPENT, 255).expect("a set was refused");
-        }
     }
 }
 
@@ -72,13 +53,13 @@ fn compare(full: &[u8], keys: usize) {
     ours::open(&a, &mut opened);
     let found: Option<Held> = opened.held();
     assert!(found.as_ref().is_some_and(|held| held.4.len() == keys), "the image holds other keys");
-    same("what opening finds", keys, found, access::held(&rust_open(&mut b)));
+    same("what opening finds", keys, found, access::held(&access::open(&mut b)));
 
     let (mut x, mut y) = (vec![0; SPENDS], vec![0; SPENDS]);
     let mut board = ours::Board::open(&mut a);
-    let mut log = rust_open(&mut b);
+    let mut log = access::open(&mut b);
     our_spends(&mut board, &mut x);
-    rust_spends(&mut log, &mut y);
+    access::spends(&mut log, SPENT, &mut y);
     assert!(x[0] == 255 && x.contains(&0), "the spends do not run from 255 tries to none");
     same("the answers of the spends", keys, &x, &y);
     same("the log after the spends", keys, board.held(), access::held(&log));
@@ -121,14 +102,14 @@ fn sample(side: &str, work: &str, full: &[u8], image: &mut [u8], answers: &mut [
     image.copy_from_slice(full);
     match (side, work) {
         ("ours", "open") => timed(OPENINGS, || our_openings(image)),
-        ("rust", "open") => timed(OPENINGS, || rust_openings(image)),
+        ("rust", "open") => timed(OPENINGS, || access::openings(image, OPENINGS)),
         ("ours", "spends") => {
             let mut board = ours::Board::open(image);
             timed(SPENDS, || our_spends(&mut board, answers))
         }
         ("rust", "spends") => {
-            let mut log = rust_open(image);
-            timed(SPENDS, || rust_spends(&mut log, answers))
+            let mut log = access::open(image);
+            timed(SPENDS, || access::spends(&mut log, SPENT, answers))
         }
         _ => panic!("usage: bench [ROUNDS], or bench ours|rust open|spends KEYS TIMES"),
     }
