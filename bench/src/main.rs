@@ -42,7 +42,7 @@ fn our_spends(board: &mut ours::Board, answers: &mut [u8]) {
 
 fn same<T: PartialEq>(what: &str, keys: usize, ours: T, rust: T) {
     if ours != rust {
-        eprintln!("bench: the two sides differ in {what} with {keys} keys");
+        eprintln!("bench: the two sides differ in {what}, in the table of size {keys}");
         std::process::exit(1);
     }
 }
