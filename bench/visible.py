@@ -7,7 +7,7 @@ For another machine than x86_64 the module is made that machine's, and what else
 import re
 import sys
 
-NAMES = {'"scan::open"': "spoolewe_open", '"spending::spend"': "spoolewe_spend", '"spending::set"': "spoolewe_set"}
+NAMES = {'"opening::open"': "spoolewe_open", '"spending::spend"': "spoolewe_spend", '"spending::set"': "spoolewe_set"}
 
 
 def visible(text):

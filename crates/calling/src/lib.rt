@@ -1,15 +1,15 @@
 // The calls that can write: each reads its numbers from the line, calls the library, and says what it answered.
 // A line that isn't the call or can't be read has `ok` false.
-use basics::Answer;
-use board::Value;
-use flash::Plan;
-use ids::Anchor;
-use ids::CounterState;
 use arguments::MAX_8;
 use arguments::MAX_16;
 use arguments::MAX_32;
 use arguments::MAX_64;
 use arguments::Numbers;
+use basics::Answer;
+use board::Value;
+use flash::Plan;
+use ids::Anchor;
+use ids::CounterState;
 use performing::Done;
 use records::Log;
 use seeding::Seed;

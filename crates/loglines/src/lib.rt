@@ -1,9 +1,9 @@
 // A log of a script's own, as a line gives it: the state, the next seq, the count, and the records of the table.
 // A line that can't be read has `ok` false.
-use codec::Raw;
 use arguments::MAX_32;
 use arguments::MAX_64;
 use arguments::Numbers;
+use codec::Raw;
 use records::LIMIT;
 use records::Log;
 use records::State;

@@ -1,9 +1,9 @@
 // The calls that only read the log: each reads its numbers from the line, calls the library, and says what it answered.
 // A line that isn't the call or can't be read has `ok` false.
+use arguments::MAX_8;
 use basics::Answer;
 use board::Reply;
 use board::Value;
-use arguments::MAX_8;
 use reading::Anchored;
 use reading::Counter;
 use reading::Number;

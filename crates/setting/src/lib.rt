@@ -1,9 +1,9 @@
 // Lines that set something: image, at, plan and log. A line that can't be read has `ok` false.
+use arguments::MAX_32;
+use arguments::MAX_64;
 use board::Board;
 use board::SPACE;
 use flash::Plan;
-use arguments::MAX_32;
-use arguments::MAX_64;
 use records::Log;
 use script::Past;
 use script::Taken;
