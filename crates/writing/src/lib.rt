@@ -60,7 +60,7 @@ pub fn program(image: &mut [u8], sector: usize, slot: usize, bytes: [u8; 16], us
     }
 }
 
-fn erase(image: &mut [u8], sector: usize, used: Used) -> Step
+pub fn erase(image: &mut [u8], sector: usize, used: Used) -> Step
     requires { ⌜ (sector * 4096 + 4096 ≤ length (now image)) × (used .erased < 131073) ⌝ }
     ensures { λ r. ⌜ Steps (λ (cut : Bool). run.erase sector (flashWith (now (image .entry)) used cut)) r (now (image .exit)) ⌝ }
 {

@@ -1,0 +1,2 @@
+-- What a PIN attempt comes to.
+pub mod Attempts

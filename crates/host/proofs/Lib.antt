@@ -1,0 +1,2 @@
+-- What the calls on a lent plan share.
+pub mod Calls

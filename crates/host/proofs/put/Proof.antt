@@ -1,0 +1,40 @@
+-- `host::put` meets its contract: it calls `log::put`, and leaves in place the plan that comes of it.
+use mathlib.Core.List.{List, [], _∷_}
+use Prim.Native.Nat.{ℕ}
+use mir.Syntax.{w8}
+use contract.Running.{givenOf, tables, tablesOf}
+use denote.RattleType.{RattleType, Denots}
+use denote.Builtin.{u8}
+use denote.Triple.Spec.{tripleOf}
+use denote.Triple.Table.{entered, cited}
+use Rattle.flash.specs.declared.Plan.{Plan}
+use Rattle.records.specs.declared.Log.{Log}
+use Rattle.ids.proofs.CounterState as CounterState
+use Rattle.ids.proofs.CounterState.Laws as CounterState′
+use Rattle.log.specs.Calls.{putOf}
+use Rattle.log.proofs.put.Symbol as callee
+use Rattle.log.proofs.put.Met as callee-met
+use Rattle.host.proofs.plan_after.Symbol as reader
+use Rattle.host.proofs.plan_after.Met as reader-met
+use Rattle.host.proofs.put.Key as key
+use Rattle.host.proofs.put as put
+use Rattle.host.proofs.put.Statement as stated
+use Rattle.host.proofs.put.Code as code
+use Rattle.lending.proofs.InPlace.{Lending, Read, struct-single, uint-single}
+use Rattle.lending.proofs.TwoMore.{Called, meets}
+use Rattle.host.proofs.Calls.{done, log-call}
+
+abbrev Rs : List RattleType
+Rs = u8 ∷ CounterState.the-row ∷ []
+
+abbrev job : Lending done Rs
+job = log-call Rs (uint-single w8, (struct-single CounterState.the-type CounterState′.the-laws CounterState′.the-copy, tt)) callee.name (λ (ys : List ℕ) (log : Log) (h : Plan) (t : Denots Rs). putOf ys log h (t .0) (t .1 .0))
+
+pub put-spec : {M : Type 1} → stated.statement M
+unfolding code.routine tablesOf
+put-spec 𝓤 H 𝓜 𝓖 𝓡 =
+    entered 𝓤 H (tripleOf 𝓤 H (𝓖 .A) put.signature (put.spec 𝓤 H (𝓖 .A) (𝓜 .mem) (𝓡 .run)))
+    (tables 𝓤 H 𝓜 𝓡 code.env .C) (tables 𝓤 H 𝓜 𝓡 code.env .Λ) key.name code.function (code.unfolded 𝓤 H 𝓜 𝓡)
+    (meets done u8 CounterState.the-row job 𝓤 H (𝓖 .A) (givenOf 𝓤 H 𝓜 𝓖) (tablesOf 𝓤 H 𝓜 (tables 𝓤 H 𝓜 𝓡 code.env))
+    (cited 𝓤 H (Called done u8 CounterState.the-row job 𝓤 H (𝓖 .A)) 𝓜 𝓡 code.env callee.name callee.routine code.calls-log·put (callee-met.met 𝓤 H 𝓜 𝓖 𝓡))
+    (cited 𝓤 H (Read done 𝓤 H (𝓖 .A)) 𝓜 𝓡 code.env reader.name reader.routine code.calls-host·plan-after (reader-met.met 𝓤 H 𝓜 𝓖 𝓡)))

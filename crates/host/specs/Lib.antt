@@ -1,0 +1,2 @@
+-- What a call on a lent plan comes to.
+pub mod Lent

@@ -1,0 +1,83 @@
+// The host build: calls on a plan that is lent, and run down in place, call after call.
+// Each takes the plan out whole, makes the call by value, and puts back whole what the call left of it.
+use flash::Plan;
+use ids::Anchor;
+use ids::CounterState;
+use performing::Done;
+use records::Log;
+use seeding::SEEDS;
+use seeding::Seed;
+ghost use mathlib.Core.Path.{_≡_};
+ghost use Rattle.log.specs.Calls.{putOf, putValueOf, putAnchorOf, formatOf};
+ghost use Rattle.tries.specs.Tries.{spendOf, setOf, advanceOf};
+ghost use Rattle.host.specs.Lent.{Leaves};
+
+// The plan that a call hands back.
+fn plan_after(done: Done) -> Plan
+    ensures { λ r. ⌜ r ≡ done .plan ⌝ }
+{
+    let plan = done.plan;
+    plan
+}
+
+pub fn put(image: &mut [u8], log: Log, plan: &mut Plan, credential: u8, new: CounterState) -> Done
+    ensures { λ r. ⌜ Leaves (putOf (now (image .entry)) log (now (plan .entry)) credential new) r (now (image .exit)) (now (plan .exit)) ⌝ }
+{
+    let done = log::put(image, log, *plan, credential, new);
+    *plan = plan_after(done);
+    done
+}
+
+pub fn put_value(image: &mut [u8], log: Log, plan: &mut Plan, id: u8, new: u64) -> Done
+    ensures { λ r. ⌜ Leaves (putValueOf (now (image .entry)) log (now (plan .entry)) id new) r (now (image .exit)) (now (plan .exit)) ⌝ }
+{
+    let done = log::put_value(image, log, *plan, id, new);
+    *plan = plan_after(done);
+    done
+}
+
+pub fn put_anchor(image: &mut [u8], log: Log, plan: &mut Plan, new: Anchor) -> Done
+    ensures { λ r. ⌜ Leaves (putAnchorOf (now (image .entry)) log (now (plan .entry)) new) r (now (image .exit)) (now (plan .exit)) ⌝ }
+{
+    let done = anchored::put_anchor(image, log, *plan, new);
+    *plan = plan_after(done);
+    done
+}
+
+pub fn format(
+    image: &mut [u8],
+    log: Log,
+    plan: &mut Plan,
+    seeds: [Seed; SEEDS],
+    count: usize,
+) -> Done
+    ensures { λ r. ⌜ Leaves (formatOf (now (image .entry)) log (now (plan .entry)) seeds count) r (now (image .exit)) (now (plan .exit)) ⌝ }
+{
+    let done = starting::format(image, log, *plan, seeds, count);
+    *plan = plan_after(done);
+    done
+}
+
+pub fn spend(image: &mut [u8], log: Log, plan: &mut Plan, credential: u8, current: u8) -> Done
+    ensures { λ r. ⌜ Leaves (spendOf (now (image .entry)) log (now (plan .entry)) credential current) r (now (image .exit)) (now (plan .exit)) ⌝ }
+{
+    let done = spending::spend(image, log, *plan, credential, current);
+    *plan = plan_after(done);
+    done
+}
+
+pub fn set(image: &mut [u8], log: Log, plan: &mut Plan, credential: u8, tries: u8) -> Done
+    ensures { λ r. ⌜ Leaves (setOf (now (image .entry)) log (now (plan .entry)) credential tries) r (now (image .exit)) (now (plan .exit)) ⌝ }
+{
+    let done = spending::set(image, log, *plan, credential, tries);
+    *plan = plan_after(done);
+    done
+}
+
+pub fn advance_lamport(image: &mut [u8], log: Log, plan: &mut Plan, seen: u64) -> Done
+    ensures { λ r. ⌜ Leaves (advanceOf (now (image .entry)) log (now (plan .entry)) seen) r (now (image .exit)) (now (plan .exit)) ⌝ }
+{
+    let done = clock::advance_lamport(image, log, *plan, seen);
+    *plan = plan_after(done);
+    done
+}

@@ -1,0 +1,7 @@
+-- What the walks of the lending functions share, and laws of the places that an image has.
+pub mod InPlace
+pub mod NoneMore
+pub mod OneMore
+pub mod TwoMore
+pub mod Places
+pub mod Steps

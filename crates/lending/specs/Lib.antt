@@ -1,0 +1,2 @@
+-- What a step on a lent plan comes to.
+pub mod Lent
