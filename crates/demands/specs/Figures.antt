@@ -43,14 +43,18 @@ decisionOf (spend credential current) t = spendDecision (heldOf counterTag crede
 decisionOf (set-tries credential tries) t = setDecision (heldOf counterTag credential t) (roomFor counterTag credential t) credential tries
 decisionOf (advance-lamport latest) t = advanceDecision (heldOf valueTag lamport t) (roomFor valueTag lamport t) latest
 
+-- the table with the record that a call decides to write
+abbrev pub newTable : Call → Log → List Raw
+newTable c log = joined (decisionOf c (recordsOf log) .rec) (recordsOf log)
+
 -- a call that decides to write a record, on a flash that refuses nothing
 pub record WritesWell (c : Call) (image : List ℕ) (log : Log) : Type 0 where
   pub append : knownIn c ≡ true → (s seq head : ℕ) → log .state ≡ Active s seq head → decisionOf c (recordsOf log) .write ≡ true → head < 256
-      → Reports (decisionOf c (recordsOf log) .value) (logOf (Active s seq (head + 1)) (log .«next_seq») (joined (decisionOf c (recordsOf log) .rec) (recordsOf log))) 16 0 (outcomeOf c image log healthy)
+      → Reports (decisionOf c (recordsOf log) .value) (logOf (Active s seq (head + 1)) (log .«next_seq») (newTable c log)) 16 0 (outcomeOf c image log healthy)
   pub commit : knownIn c ≡ true → (s seq head : ℕ) → log .state ≡ Active s seq head → decisionOf c (recordsOf log) .write ≡ true → head ≡ 256 → 1 < sectorsIn (length image) → (log .«next_seq» ≡ seqMax → ⊥)
       → Reports (decisionOf c (recordsOf log) .value)
-      (logOf (Active (after (sectorsIn (length image)) s) (log .«next_seq») (length (joined (decisionOf c (recordsOf log) .rec) (recordsOf log)) + 1)) (log .«next_seq» + 1) (joined (decisionOf c (recordsOf log) .rec) (recordsOf log)))
-      (16 * (length (joined (decisionOf c (recordsOf log) .rec) (recordsOf log)) + 1)) 4096 (outcomeOf c image log healthy)
+      (logOf (Active (after (sectorsIn (length image)) s) (log .«next_seq») (length (newTable c log) + 1)) (log .«next_seq» + 1) (newTable c log))
+      (16 * (length (newTable c log) + 1)) 4096 (outcomeOf c image log healthy)
 
 -- a format on one
 abbrev pub FormatsWell : List Seed → ℕ → List ℕ → Log → Type 0

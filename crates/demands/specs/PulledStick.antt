@@ -37,13 +37,17 @@ triesIn credential current log = remainingOf (startOf (heldOf counterTag credent
 abbrev pub spending : ℕ → ℕ → Plan → Made
 spending credential current plan = record { call = spend credential current; plan = plan }
 
+-- the tries that are found after a spend
+abbrev pub triesWoken : World → ℕ → ℕ → Plan → ℕ
+triesWoken w credential current plan = triesIn credential current (woken w (spending credential current plan))
+
 pub record KeepsTries (w : World) (credential current : ℕ) (plan : Plan) : Type 0 where
   -- pulled or not, the tries it had or one fewer
   pub either : Lucky w (spending credential current plan)
-      → (triesIn credential current (woken w (spending credential current plan)) ≡ triesIn credential current (w .log)) ⊎ (triesIn credential current (woken w (spending credential current plan)) + 1 ≡ triesIn credential current (w .log))
+      → (triesWoken w credential current plan ≡ triesIn credential current (w .log)) ⊎ (triesWoken w credential current plan + 1 ≡ triesIn credential current (w .log))
   -- a spend that answered 0 while tries were left has taken one
   pub taken : isDone (outcome (spending credential current plan) w .answer) ≡ true → 0 < triesIn credential current (w .log)
-      → triesIn credential current (woken w (spending credential current plan)) + 1 ≡ triesIn credential current (w .log)
+      → triesWoken w credential current plan + 1 ≡ triesIn credential current (w .log)
 
 -- ---- a set
 -- a record is held, and by it so many tries remain
