@@ -15,7 +15,8 @@ use Rattle.performing.proofs.Done as D
 use Rattle.performing.proofs.Done.Laws as D′
 use Rattle.host.specs.Lent.{Leaves}
 use Rattle.host.proofs.plan_after.Symbol as plan-after
-use Rattle.lending.proofs.InPlace.{struct-single, Answering, Singles, Lending}
+use Rattle.lending.proofs.Plain.{struct-single, Singles}
+use Rattle.lending.proofs.InPlace.{Answering, Lending}
 
 abbrev pub done : Answering
 done = record {

@@ -14,7 +14,8 @@ use Rattle.writing.proofs.Step as S
 use Rattle.writing.proofs.Step.Laws as S′
 use Rattle.lending.specs.Lent.{StepLeaves}
 use Rattle.lending.proofs.plan_left.Symbol as plan-left
-use Rattle.lending.proofs.InPlace.{struct-single, uint-single, Answering, Singles, Lending}
+use Rattle.lending.proofs.InPlace.{Answering, Lending}
+use Rattle.lending.proofs.Plain.{struct-single, uint-single, Singles}
 
 abbrev pub step : Answering
 step = record {

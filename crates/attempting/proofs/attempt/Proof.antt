@@ -50,7 +50,8 @@ use Rattle.performing.specs.Outcomes.{Outcome, doneOf}
 use Rattle.performing.proofs.Done as D
 use Rattle.performing.proofs.Done.Laws as D′
 use Rattle.tries.specs.Tries.{advanceOf, spendOf}
-use Rattle.lending.proofs.InPlace.{PlanR, planVals, Single, struct-single, uint-single, typed}
+use Rattle.lending.proofs.Plain.{Single, struct-single, uint-single, typed}
+use Rattle.lending.proofs.InPlace.{PlanR, planVals}
 use Rattle.host.specs.Lent.{Leaves}
 use Rattle.host.proofs.advance_lamport as advance
 use Rattle.host.proofs.advance_lamport.Symbol as advance-def

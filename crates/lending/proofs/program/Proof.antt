@@ -18,8 +18,10 @@ use Rattle.lending.proofs.program.Key as key
 use Rattle.lending.proofs.program as program
 use Rattle.lending.proofs.program.Statement as stated
 use Rattle.lending.proofs.program.Code as code
-use Rattle.lending.proofs.InPlace.{Lending, Read, array-single, uint-single}
-use Rattle.lending.proofs.TwoMore.{Called, meets}
+use Rattle.lending.proofs.InPlace.{Lending, Read}
+use Rattle.lending.proofs.Plain.{array-single, uint-single}
+use Rattle.lending.proofs.Lends.{Called}
+use Rattle.lending.proofs.TwoMore.{meets}
 use Rattle.lending.proofs.Steps.{step, sector-call}
 
 abbrev Rs : List RattleType
@@ -34,5 +36,5 @@ program-spec 𝓤 H 𝓜 𝓖 𝓡 =
     entered 𝓤 H (tripleOf 𝓤 H (𝓖 .A) program.signature (program.spec 𝓤 H (𝓖 .A) (𝓜 .mem) (𝓡 .run)))
     (tables 𝓤 H 𝓜 𝓡 code.env .C) (tables 𝓤 H 𝓜 𝓡 code.env .Λ) key.name code.function (code.unfolded 𝓤 H 𝓜 𝓡)
     (meets step usize (Array u8 16) job 𝓤 H (𝓖 .A) (givenOf 𝓤 H 𝓜 𝓖) (tablesOf 𝓤 H 𝓜 (tables 𝓤 H 𝓜 𝓡 code.env))
-    (cited 𝓤 H (Called step usize (Array u8 16) job 𝓤 H (𝓖 .A)) 𝓜 𝓡 code.env callee.name callee.routine code.calls-lending·program-by-value (callee-met.met 𝓤 H 𝓜 𝓖 𝓡))
+    (cited 𝓤 H (Called step Rs job 𝓤 H (𝓖 .A)) 𝓜 𝓡 code.env callee.name callee.routine code.calls-lending·program-by-value (callee-met.met 𝓤 H 𝓜 𝓖 𝓡))
     (cited 𝓤 H (Read step 𝓤 H (𝓖 .A)) 𝓜 𝓡 code.env reader.name reader.routine code.calls-lending·plan-left (reader-met.met 𝓤 H 𝓜 𝓖 𝓡)))
