@@ -63,7 +63,7 @@ use Rattle.attempting.specs.declared.Attempted.{Attempted}
 use Rattle.attempting.specs.Attempts.{AttemptOf, spentAfter}
 use Rattle.attempting.proofs.Attempted as At
 use Rattle.attempting.proofs.Attempted.Laws as At′
-use Rattle.attempting.proofs.Again.{LentAgain, lends-again, comes-back}
+use Rattle.attempting.proofs.Image.{image-at, Awaited, lends-image, image-back}
 use Rattle.attempting.proofs.Local.{cell, plan-at, lends-local, local-back}
 use Rattle.attempting.proofs.log_after as log-after
 use Rattle.attempting.proofs.log_after.Symbol as log-after-def
@@ -137,10 +137,6 @@ module _ {M : Type 1} (𝓤 : URA M) (H : Heap 𝓤) (A : Atoms 𝓤) (W : Given
   abbrev s : Val
   s = sliceVal (image .ptr) (length ys)
 
-  -- the image under another name, with other bytes
-  abbrev image-at : GName → List ℕ → RefT (List ℕ)
-  image-at γ zs = record { ptr = image .ptr; name = γ; now = zs }
-
   abbrev a : RefT (List ℕ) × (Log × (Plan × (ℕ × (ℕ × (ℕ × Unit {0})))))
   a = (image, (log, (h, (credential, (current, (seen, tt))))))
 
@@ -159,10 +155,10 @@ module _ {M : Type 1} (𝓤 : URA M) (H : Heap 𝓤) (A : Atoms 𝓤) (W : Given
 
   -- what each callee's triple binds outside
   abbrev to-advance : ℕ → GName → ℕ → ℕ → GName → Advance 𝓤 H A at-mem run .Ghost
-  to-advance ν δ μ l ε = (((ν ∷ [], (μ ∷ [], tt)), (fullShare, (fullShare, tt)), tt, (image-at δ ys, (log, (plan-at l ε h, (seen, tt)))), (s ∷ [], (log-one .val log ∷ [], (vptr l 0 ∷ [], (vint w64 seen ∷ [], tt))))), tt)
+  to-advance ν δ μ l ε = (((ν ∷ [], (μ ∷ [], tt)), (fullShare, (fullShare, tt)), tt, (image-at image δ ys, (log, (plan-at l ε h, (seen, tt)))), (s ∷ [], (log-one .val log ∷ [], (vptr l 0 ∷ [], (vint w64 seen ∷ [], tt))))), tt)
 
   abbrev to-spend : List ℕ → Log → Val → ℕ → ℕ → GName → Plan → Spend 𝓤 H A at-mem run .Ghost
-  to-spend zs next w μ l ε p = (((κ, (μ ∷ [], tt)), (q, (fullShare, tt)), tt, (image-at (image .name) zs, (next, (plan-at l ε p, (credential, (current, tt))))), (s ∷ [], (w ∷ [], (vptr l 0 ∷ [], (vint w8 credential ∷ [], (vint w8 current ∷ [], tt)))))), tt)
+  to-spend zs next w μ l ε p = (((κ, (μ ∷ [], tt)), (q, (fullShare, tt)), tt, (image-at image (image .name) zs, (next, (plan-at l ε p, (credential, (current, tt))))), (s ∷ [], (w ∷ [], (vptr l 0 ∷ [], (vint w8 credential ∷ [], (vint w8 current ∷ [], tt)))))), tt)
 
   abbrev to-log : Done → Val → LogAfter 𝓤 H A at-mem run .Ghost
   to-log d v = ((tt, tt, tt, (d, tt), (v ∷ [], tt)), tt)
@@ -185,19 +181,19 @@ module _ {M : Type 1} (𝓤 : URA M) (H : Heap 𝓤) (A : Atoms 𝓤) (W : Given
         assigns ! (agg ! (and-then ! (load ! (from ! (stop !)) (look ! 10 refl)) (and-then ! (load ! (from ! (fld ! refl (stop !))) (look-in ! 30 (sub ! 1 refl (whole !)))) (no-more !)))) (from ! (stop !)) (init ! 8 refl (tt, (tt, (record { fits = room .0 }, tt)))) $
         assigns ! (addr ! (from ! (stop !))) (from ! (stop !)) (init ! 6 refl (tt, tt)) $
         move ! (35 ∷ []) $ fsplit ! $ move ! (1 ∷ []) $ drop ! $ move ! (35 ∷ []) $ split ! $ move ! (2 ∷ 0 ∷ []) $ lft-new ! tt (λ ν. move ! (1 ∷ 2 ∷ []) $
-        use2 W (later (some (λ (δ : GName). ‵ (MutSlice (named 0) (ν ∷ []) u8 .own (image-at δ ys) (s ∷ [])) ⊛ ‵ (LentAgain u8 κ (ν ∷ []) q (image .name) (image .ptr .0) (image .ptr .1) δ ys)))) (lends-again u8 κ (ν ∷ []) q (image .name) (image .ptr .0) (image .ptr .1) 𝓤 H A W (named 0) (named 0) ys) $ await ! tt $ pick ! (λ δ. split ! $
+        use2 W (later (some (λ (δ : GName). ‵ (MutSlice (named 0) (ν ∷ []) u8 .own (image-at image δ ys) (s ∷ [])) ⊛ ‵ (Awaited image κ q (ν ∷ []) δ)))) (lends-image 𝓤 H A W image κ q (ν ∷ [])) $ await ! tt $ pick ! (λ δ. split ! $
         lft-new ! tt (λ μ. move ! (23 ∷ []) $ use1 W (later (some (λ (ε : GName). ‵ (MutRef (named 1) (μ ∷ []) PlanR .own (plan-at l₇ ε h) (vptr l₇ 0 ∷ [])) ⊛ ‵ (flent (μ ∷ []) (Body (mem PlanR) l₇ 0 ε))))) (lends-local 𝓤 H A W l₇ (μ ∷ []) h is-plan) $ await ! tt $ pick ! (λ ε. split ! $
         -- [the plan's reference; what comes back of it; its token; the image; what comes back of it; its token; …; _16; …]: the number
         owned ! u64 (Is u64) (uint-makes 𝓤 H A W w64) seen _ is-seen $ nothing ! $ move ! (1 ∷ 0 ∷ []) $ fjoin ! $ move ! (1 ∷ 0 ∷ []) $ fjoin ! $ owned ! LogR (Is LogR) (LL.makes Lg.the-type Lg′.the-plain 𝓤 H A) log _ is-log $ fjoin ! $ move ! (3 ∷ 0 ∷ []) $ fjoin ! $
         move ! (2 ∷ 5 ∷ []) $ join ! $ move ! (4 ∷ 0 ∷ []) $ join ! $ join ! $ nothing ! $ move ! (1 ∷ 0 ∷ []) $ join ! $ use1 W (raw (Advance 𝓤 H A at-mem run .pre (to-advance ν δ μ l₇ ε))) (id⊢ 𝓤 _) $
         calls-at ! fm (Advance 𝓤 H A at-mem run) known-advance (to-advance ν δ μ l₇ ε) (and-then ! (load ! (from ! (stop !)) (look ! 11 refl)) (and-then ! (load ! (from ! (stop !)) (look ! 30 refl)) (and-then ! (load ! (from ! (stop !)) (look ! 9 refl)) (and-then ! (load ! (from ! (stop !)) (look ! 22 refl)) (no-more !))))) (λ v₁.
-        use1 W (later (some (λ (r : Done). ((‵ (flft (ν ∷ []) fullShare) ⊛ ‵ (flft (μ ∷ []) fullShare) ⊛ ‵ ftrue) ⊛ ‵ (DoneR .own r (v₁ ∷ []))) ⊛ raw (ensured 𝓤 H A advance.ended (advance.clauses 𝓤 H A at-mem run) (ν ∷ [], (μ ∷ [], tt)) (image-at δ ys, (log, (plan-at l₇ ε h, (seen, tt)))) tt r)))) (id⊢ 𝓤 _) $ await ! tt $ pick ! (λ r₁.
-        split ! $ move ! (1 ∷ []) $ use1 W (some (λ (t : Lasts advance.ended (ν ∷ [], (μ ∷ [], tt)) (image-at δ ys, (log, (plan-at l₇ ε h, (seen, tt))))). ‵ (lasts advance.ended (ν ∷ [], (μ ∷ [], tt)) (image-at δ ys, (log, (plan-at l₇ ε h, (seen, tt)))) t) ⊛ raw (fact 𝓤 (Leaves (advanceOf ys log h seen) r₁ (t .0) (t .1 .1 .0))))) (id⊢ 𝓤 _) $ pick ! (λ t.
+        use1 W (later (some (λ (r : Done). ((‵ (flft (ν ∷ []) fullShare) ⊛ ‵ (flft (μ ∷ []) fullShare) ⊛ ‵ ftrue) ⊛ ‵ (DoneR .own r (v₁ ∷ []))) ⊛ raw (ensured 𝓤 H A advance.ended (advance.clauses 𝓤 H A at-mem run) (ν ∷ [], (μ ∷ [], tt)) (image-at image δ ys, (log, (plan-at l₇ ε h, (seen, tt)))) tt r)))) (id⊢ 𝓤 _) $ await ! tt $ pick ! (λ r₁.
+        split ! $ move ! (1 ∷ []) $ use1 W (some (λ (t : Lasts advance.ended (ν ∷ [], (μ ∷ [], tt)) (image-at image δ ys, (log, (plan-at l₇ ε h, (seen, tt))))). ‵ (lasts advance.ended (ν ∷ [], (μ ∷ [], tt)) (image-at image δ ys, (log, (plan-at l₇ ε h, (seen, tt)))) t) ⊛ raw (fact 𝓤 (Leaves (advanceOf ys log h seen) r₁ (t .0) (t .1 .1 .0))))) (id⊢ 𝓤 _) $ pick ! (λ t.
         split ! $ move ! (1 ∷ []) $ heard ! (Leaves (advanceOf ys log h seen) r₁ (t .0) (t .1 .1 .0)) (λ e₁. fsplit ! $ fsplit ! $ move ! (1 ∷ []) $ feqL ! (λ n₁. move ! (1 ∷ []) $ fsplit ! $ drop ! $ fsplit ! $
         -- both come back: the plan as the call left it, and the image
         move ! (3 ∷ []) $ split ! $ split ! $ lft-end ! tt $ move ! (1 ∷ []) $ split ! $ lft-end ! tt $ move ! (0 ∷ 7 ∷ 4 ∷ []) $
         use3 W (later (given (Is PlanR (t .1 .1 .0) (planVals (t .1 .1 .0))) (‵ (cell l₇ (t .1 .1 .0))))) (local-back 𝓤 H A W l₇ (μ ∷ []) ε (t .1 .1 .0)) $ await ! tt $ learn ! (λ is-left. move ! (2 ∷ 6 ∷ 5 ∷ []) $
-        use3 W (later (‵ (MutSlice (named 0) κ u8 .own (image-at (image .name) (t .0)) (s ∷ [])) ⊛ ‵ (flft κ q))) (comes-back u8 κ (ν ∷ []) q (image .name) (image .ptr .0) (image .ptr .1) 𝓤 H A W (named 0) (named 0) ys δ (t .0) room n₁) $ await ! tt $ split ! $
+        use3 W (later (‵ (MutSlice (named 0) κ u8 .own (image-at image (image .name) (t .0)) (s ∷ [])) ⊛ ‵ (flft κ q))) (image-back 𝓤 H A W image κ q (ν ∷ []) δ (t .0) room n₁) $ await ! tt $ split ! $
         move ! (4 ∷ []) $ peeks ! DoneR (Is DoneR) (shows 𝓤 H A DoneR) r₁ (v₁ ∷ []) (λ is₁. drop ! $ land ! (from ! (stop !)) (init ! 21 refl (typed 𝓤 H A W DoneR done-one r₁ v₁ is₁)) $
         -- [the image; its token; the plan's local; …; …; _16; …]: the log that the number left
         owned ! DoneR (Is DoneR) (LL.makes D.the-type D′.the-plain 𝓤 H A) r₁ (v₁ ∷ []) is₁ $ nothing ! $ move ! (1 ∷ 0 ∷ []) $ fjoin ! $ nothing ! $ join ! $ nothing ! $ move ! (1 ∷ 0 ∷ []) $ join ! $ use1 W (raw (LogAfter 𝓤 H A at-mem run .pre (to-log r₁ v₁))) (id⊢ 𝓤 _) $
@@ -215,8 +211,8 @@ module _ {M : Type 1} (𝓤 : URA M) (H : Heap 𝓤) (A : Atoms 𝓤) (W : Given
         use1 W (raw (Spend 𝓤 H A at-mem run .pre (to-spend (t .0) next v₂ μ₂ l₇ ε₂ (t .1 .1 .0)))) (id⊢ 𝓤 _) $
         calls-at ! fm (Spend 𝓤 H A at-mem run) known-spend (to-spend (t .0) next v₂ μ₂ l₇ ε₂ (t .1 .1 .0))
         (and-then ! (load ! (from ! (stop !)) (look ! 5 refl)) (and-then ! (load ! (from ! (stop !)) (look ! 17 refl)) (and-then ! (load ! (from ! (stop !)) (look ! 3 refl)) (and-then ! (load ! (from ! (stop !)) (look ! 26 refl)) (and-then ! (load ! (from ! (stop !)) (look ! 24 refl)) (no-more !)))))) (λ v₃.
-        use1 W (later (some (λ (r : Done). ((‵ (flft κ q) ⊛ ‵ (flft (μ₂ ∷ []) fullShare) ⊛ ‵ ftrue) ⊛ ‵ (DoneR .own r (v₃ ∷ []))) ⊛ raw (ensured 𝓤 H A spend.ended (spend.clauses 𝓤 H A at-mem run) (κ, (μ₂ ∷ [], tt)) (image-at (image .name) (t .0), (next, (plan-at l₇ ε₂ (t .1 .1 .0), (credential, (current, tt))))) tt r)))) (id⊢ 𝓤 _) $ await ! tt $ pick ! (λ r₃.
-        split ! $ move ! (1 ∷ []) $ use1 W (some (λ (w : Lasts spend.ended (κ, (μ₂ ∷ [], tt)) (image-at (image .name) (t .0), (next, (plan-at l₇ ε₂ (t .1 .1 .0), (credential, (current, tt)))))). ‵ (lasts spend.ended (κ, (μ₂ ∷ [], tt)) (image-at (image .name) (t .0), (next, (plan-at l₇ ε₂ (t .1 .1 .0), (credential, (current, tt))))) w)
+        use1 W (later (some (λ (r : Done). ((‵ (flft κ q) ⊛ ‵ (flft (μ₂ ∷ []) fullShare) ⊛ ‵ ftrue) ⊛ ‵ (DoneR .own r (v₃ ∷ []))) ⊛ raw (ensured 𝓤 H A spend.ended (spend.clauses 𝓤 H A at-mem run) (κ, (μ₂ ∷ [], tt)) (image-at image (image .name) (t .0), (next, (plan-at l₇ ε₂ (t .1 .1 .0), (credential, (current, tt))))) tt r)))) (id⊢ 𝓤 _) $ await ! tt $ pick ! (λ r₃.
+        split ! $ move ! (1 ∷ []) $ use1 W (some (λ (w : Lasts spend.ended (κ, (μ₂ ∷ [], tt)) (image-at image (image .name) (t .0), (next, (plan-at l₇ ε₂ (t .1 .1 .0), (credential, (current, tt)))))). ‵ (lasts spend.ended (κ, (μ₂ ∷ [], tt)) (image-at image (image .name) (t .0), (next, (plan-at l₇ ε₂ (t .1 .1 .0), (credential, (current, tt))))) w)
         ⊛ raw (fact 𝓤 (Leaves (spendOf (t .0) next (t .1 .1 .0) credential current) r₃ (w .0) (w .1 .1 .0))))) (id⊢ 𝓤 _) $ pick ! (λ w.
         split ! $ move ! (1 ∷ []) $ heard ! (Leaves (spendOf (t .0) next (t .1 .1 .0) credential current) r₃ (w .0) (w .1 .1 .0)) (λ e₃. fsplit ! $ fsplit ! $ move ! (1 ∷ []) $ feqL ! (λ n₂. move ! (1 ∷ []) $ fsplit ! $ drop ! $ fsplit ! $
         -- the plan's local comes back, to be freed
