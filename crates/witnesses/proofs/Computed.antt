@@ -3,6 +3,7 @@ use mathlib.Core.Path.{_≡_, refl, sym, ap, subst, _∙_}
 use mathlib.Core.Bool.{true}
 use mathlib.Core.List.{List, [], _∷_}
 use Prim.Native.Nat.{ℕ}
+use lib.ListN.{getD}
 use Rattle.basics.specs.Lists.{same, allAre}
 use Rattle.basics.specs.Little.{leBytes, leNumber}
 use Rattle.ids.specs.Ids.{placeFrom, isMonotonic}
@@ -31,7 +32,7 @@ use Rattle.demands.specs.Healthy.{healthy}
 use Rattle.demands.specs.Sessions.{World, opened, Made, outcome, Lasts}
 use Rattle.demands.specs.PulledStick.{triesIn, Has}
 use Rattle.witnesses.specs.Sticks.{pin, pulledAfter, blankStick, newStick, fullStick, unlucky, unluckyStick, logWith, unspent, spent, torn, formatting, spending, refusals}
-use Rattle.witnesses.specs.Computed.{numbers, Pulled, Computed}
+use Rattle.witnesses.specs.Computed.{numbers, Pulled, Spends, Computed}
 
 -- ---- the sticks opened
 pub record Opens : Type 0 where
@@ -73,11 +74,17 @@ pub record Cuts (image : List ℕ) (log : Log) (m : Made) (left : List ℕ) : Ty
   pub cut : outcome m (world image log) .flash .cut ≡ true
   pub leaves : outcome m (world image log) .flash .image ≡ left
 
+-- what a healthy spend answers and counts
+abbrev figures : List ℕ → Log → List ℕ
+figures image log = outcome (spending healthy) (world image log) .value ∷ outcome (spending healthy) (world image log) .flash .programmed ∷ outcome (spending healthy) (world image log) .flash .erased ∷ []
+
 pub record Called : Type 0 where
   pub formats : outcome (formatting healthy) (opened blankStick) .flash .image ≡ newStick
   pub holds : Has pin 3 (logWith 1 2 unspent)
   pub lasts : Lasts refusals (world newStick (logWith 1 2 unspent))
   pub answers : numbers refusals (world newStick (logWith 1 2 unspent)) ≡ 0 ∷ 6 ∷ 0 ∷ []
+  pub appends : figures newStick (logWith 1 2 unspent) ≡ 3 ∷ 16 ∷ 0 ∷ []
+  pub commits : figures fullStick (logWith 1 256 unspent) ≡ 3 ∷ 32 ∷ 4096 ∷ []
   pub in-append : Cuts newStick (logWith 1 2 unspent) (spending (pulledAfter 5)) (torn 0 2 5 (slotOf 1 spent) newStick)
   pub in-erase : Cuts fullStick (logWith 1 256 unspent) (spending (pulledAfter 100)) fullStick
   pub in-record : Cuts fullStick (logWith 1 256 unspent) (spending (pulledAfter 4103)) (torn 1 1 7 (slotOf 2 spent) fullStick)
@@ -94,6 +101,8 @@ called = record {
   holds = (refl, refl);
   lasts = (refl, (refl, (refl, tt)));
   answers = refl;
+  appends = refl;
+  commits = refl;
   in-append = record { cut = refl; leaves = refl };
   in-erase = record { cut = refl; leaves = refl };
   in-record = record { cut = refl; leaves = refl };
@@ -121,12 +130,19 @@ pulled image left log m n opening cuts found = record {
   found = ap (λ (l : Log). tries (outcome m (world image l) .flash .image)) opening ∙ ap tries (cuts .leaves) ∙ found;
 }
 
+spends : (image : List ℕ) (log : Log) (programmed erased : ℕ) → openOf image .log ≡ log → figures image log ≡ 3 ∷ programmed ∷ erased ∷ [] → Spends image programmed erased
+spends image log programmed erased opening counted =
+    let found : figures image (openOf image .log) ≡ 3 ∷ programmed ∷ erased ∷ [] = ap (figures image) opening ∙ counted in
+    record { value = ap (λ (l : List ℕ). getD l 0 0) found; programmed-is = ap (λ (l : List ℕ). getD l 1 0) found; erased-is = ap (λ (l : List ℕ). getD l 2 0) found }
+
 pub computed : Computed
 computed = record {
   formats = called .formats;
   holds = subst (Has pin 3) (sym (opens .new)) (called .holds);
   lasts = subst (λ (l : Log). Lasts refusals (world newStick l)) (sym (opens .new)) (called .lasts);
   answers = ap (λ (l : Log). numbers refusals (world newStick l)) (opens .new) ∙ called .answers;
+  appends = spends newStick _ 16 0 (opens .new) (called .appends);
+  commits = spends fullStick _ 32 4096 (opens .full) (called .commits);
   in-append = pulled newStick _ _ _ 3 (opens .new) (called .in-append) (opens-torn .append);
   in-erase = pulled fullStick _ _ _ 3 (opens .full) (called .in-erase) (ap (triesIn pin 3) (opens .full) ∙ remaining .all 1 256);
   in-record = pulled fullStick _ _ _ 3 (opens .full) (called .in-record) (opens-torn .rec);

@@ -19,6 +19,12 @@ pub record Pulled (image : List ℕ) (m : Made) (tries : ℕ) : Type 0 where
   pub cut : outcome m (opened image) .flash .cut ≡ true
   pub found : triesIn pin 3 (woken (opened image) m) ≡ tries
 
+-- a spend on a healthy flash: the tries before it, and what it programs and erases
+pub record Spends (image : List ℕ) (programmed erased : ℕ) : Type 0 where
+  pub value : outcome (spending healthy) (opened image) .value ≡ 3
+  pub programmed-is : outcome (spending healthy) (opened image) .flash .programmed ≡ programmed
+  pub erased-is : outcome (spending healthy) (opened image) .flash .erased ≡ erased
+
 pub record Computed : Type 0 where
   -- a format makes the new stick, which opens with three tries
   pub formats : outcome (formatting healthy) (opened blankStick) .flash .image ≡ newStick
@@ -26,6 +32,9 @@ pub record Computed : Type 0 where
   -- power lasts through a session in which every call meets refusals: the first spend answers 0, the second 6, the Lamport number 0
   pub lasts : Lasts refusals (opened newStick)
   pub answers : numbers refusals (opened newStick) ≡ 0 ∷ 6 ∷ 0 ∷ []
+  -- "A healthy append reports 16 and 0; a healthy commit of r records 16 × (r + 1) and 4,096."
+  pub appends : Spends newStick 16 0
+  pub commits : Spends fullStick 32 4096
   -- a spend that is cut in the middle of an append
   pub in-append : Pulled newStick (spending (pulledAfter 5)) 3
   -- a spend on a full sector, cut in the middle of the other sector's erase, of its record, and of its header
