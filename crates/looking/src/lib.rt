@@ -1,55 +1,9 @@
 // Looking a log value over once: whether it fits an image of so many sectors, and where a key stands in it.
-use codec::Raw;
 use fitting::Looked;
 use records::LIMIT;
 use records::Log;
 ghost use mathlib.Core.Path.{_≡_};
-ghost use Prim.Native.Nat.{_≤_};
-ghost use lib.ListN.{take};
-ghost use Rattle.records.specs.Table.{limit};
 ghost use Rattle.fitting.specs.Fitting.{lookedOf};
-ghost use Rattle.fitting.specs.Steps.{surveyOf};
-
-// Whether no key stands twice and no tag is FF, and where a key stands. A key can only stand twice if its id does, so
-// keys are compared only where an id is met again.
-fn survey(table: [Raw; LIMIT], count: usize, tag: u8, id: u8) -> Looked
-    requires { ⌜ count ≤ limit ⌝ }
-    ensures { λ r. ⌜ r ≡ surveyOf tag id (take count table) ⌝ }
-{
-    let mut met = [0u8; 256];
-    let mut tags = [0u8; LIMIT];
-    let mut ids = [0u8; LIMIT];
-    let mut at = count;
-    let mut held = Raw::none();
-    let mut i: usize = 0;
-    while i < count {
-        let r = table[i];
-        if r.tag == 0xFF {
-            return fitting::misfit();
-        }
-        let mark = r.id as usize;
-        if met[mark] != 0 {
-            if records::find(&tags, &ids, i, r.tag, r.id) < i {
-                return fitting::misfit();
-            }
-        }
-        met[mark] = 1;
-        tags[i] = r.tag;
-        ids[i] = r.id;
-        if r.tag == tag {
-            if r.id == id {
-                at = i;
-                held = r;
-            }
-        }
-        i += 1;
-    }
-    Looked {
-        fits: true,
-        at: at,
-        held: held,
-    }
-}
 
 // Whether a log fits an image of so many sectors, and in one that does, the place of a key, or the count, and the record there.
 pub fn look(log: Log, sectors: usize, tag: u8, id: u8) -> Looked
@@ -70,5 +24,5 @@ pub fn look(log: Log, sectors: usize, tag: u8, id: u8) -> Looked
     if !fitting::zeros_past(table, count) {
         return fitting::misfit();
     }
-    survey(table, count, tag, id)
+    surveying::survey(table, count, tag, id)
 }

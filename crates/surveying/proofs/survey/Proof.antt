@@ -12,8 +12,8 @@ use Rattle.codec.specs.declared.Raw.{Raw}
 use Rattle.records.specs.Table.{holds}
 use Rattle.records.proofs.Joining.{nowhere}
 use Rattle.fitting.proofs.Surveying.{Surveying, start, is-met, not-met, finish, blank, twice, hit, miss}
-use Rattle.looking.proofs.survey.Statement.{statement}
-use Rattle.looking.proofs.survey.Tie as tie
+use Rattle.surveying.proofs.survey.Statement.{statement}
+use Rattle.surveying.proofs.survey.Tie as tie
 
 abbrev Inv-loop : tie.InvT-loop
 Inv-loop count tag id table met₀ tags₀ ids₀ at₀ held₀ i₀ met tags ids at held i =

@@ -1,4 +1,4 @@
--- `opening::scan_sector` meets its contract.
+-- `passing::scan_sector` meets its contract.
 use Rattle.records.specs.declared.State.the-variants.{Active}
 use Rattle.records.proofs.Joining.{nowhere}
 use Rattle.records.proofs.Places.{places-get}
@@ -19,8 +19,8 @@ use Rattle.codec.specs.Slots.{some, seqFed, crcFrom, decodedWith, decoded}
 use Rattle.codec.proofs.Laws.{decoded-from}
 use Rattle.flash.specs.Image.{slotAt}
 use Rattle.scan.proofs.Reading.{Scanning, pass, skip, replace, keep, add, full, place-found, read-end, head-end}
-use Rattle.opening.proofs.scan_sector.Statement.{statement}
-use Rattle.opening.proofs.scan_sector.Tie as tie
+use Rattle.passing.proofs.scan_sector.Statement.{statement}
+use Rattle.passing.proofs.scan_sector.Tie as tie
 
 abbrev Inv-loop : tie.InvT-loop
 Inv-loop image sector seq start table₀ tags₀ ids₀ count₀ head₀ k₀ table tags ids count head k =

@@ -1,7 +1,7 @@
--- `opening::unreadable` meets its contract.
+-- `passing::unreadable` meets its contract.
 use borrow.Author.Needs.{needs}
-use Rattle.opening.proofs.unreadable.Statement.{statement}
-use Rattle.opening.proofs.unreadable.Tie as tie
+use Rattle.passing.proofs.unreadable.Statement.{statement}
+use Rattle.passing.proofs.unreadable.Tie as tie
 
 empty-table-requires : tie.Need-empty-table-requires
 empty-table-requires c κs = search needs
