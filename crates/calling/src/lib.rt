@@ -86,7 +86,7 @@ fn put(line: &[u8], e: usize, image: &mut [u8], log: Log, plan: Plan) -> Work {
         at_reset: x[3] as u32,
         allowance: x[1] as u8,
     };
-    quiet(log::put(image, log, plan, x[0] as u8, new))
+    quiet(putting::put(image, log, plan, x[0] as u8, new))
 }
 
 fn put_value(line: &[u8], e: usize, image: &mut [u8], log: Log, plan: Plan) -> Work {
@@ -95,7 +95,7 @@ fn put_value(line: &[u8], e: usize, image: &mut [u8], log: Log, plan: Plan) -> W
         return unwritten(log, plan);
     }
     let x = n.x;
-    quiet(log::put_value(image, log, plan, x[0] as u8, x[1]))
+    quiet(putting::put_value(image, log, plan, x[0] as u8, x[1]))
 }
 
 fn put_anchor(line: &[u8], e: usize, image: &mut [u8], log: Log, plan: Plan) -> Work {

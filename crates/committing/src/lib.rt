@@ -57,7 +57,7 @@ pub fn commit(
                 used: u,
             };
         }
-        let w = writing::write_sector(image, here, next, table, count, u);
+        let w = rewriting::write_sector(image, here, next, table, count, u);
         let seq = next;
         next = seq + 1;
         u = w.used;

@@ -63,7 +63,7 @@ pub fn decode_header(slot: &[u8], version: u8) -> Header
     if slot[8] != version {
         return Header::Invalid;
     }
-    if sealing::check12(crc::start(), slot) != sealing::carried(slot) {
+    if checking::check12(crc::start(), slot) != checking::carried(slot) {
         return Header::Invalid;
     }
     Header::Valid(numbers::number4(slot[4], slot[5], slot[6], slot[7]))

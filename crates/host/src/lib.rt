@@ -23,7 +23,7 @@ fn plan_after(done: Done) -> Plan
 pub fn put(image: &mut [u8], log: Log, plan: &mut Plan, credential: u8, new: CounterState) -> Done
     ensures { λ r. ⌜ Leaves (putOf (now (image .entry)) log (now (plan .entry)) credential new) r (now (image .exit)) (now (plan .exit)) ⌝ }
 {
-    let done = log::put(image, log, *plan, credential, new);
+    let done = putting::put(image, log, *plan, credential, new);
     *plan = plan_after(done);
     done
 }
@@ -31,7 +31,7 @@ pub fn put(image: &mut [u8], log: Log, plan: &mut Plan, credential: u8, new: Cou
 pub fn put_value(image: &mut [u8], log: Log, plan: &mut Plan, id: u8, new: u64) -> Done
     ensures { λ r. ⌜ Leaves (putValueOf (now (image .entry)) log (now (plan .entry)) id new) r (now (image .exit)) (now (plan .exit)) ⌝ }
 {
-    let done = log::put_value(image, log, *plan, id, new);
+    let done = putting::put_value(image, log, *plan, id, new);
     *plan = plan_after(done);
     done
 }

@@ -16,7 +16,7 @@ fn put_number(out: &mut [u8], at: usize, x: u64, behind: u8) -> usize
     requires { ⌜ at + length (number x behind) ≤ length (now out) ⌝ }
     ensures { λ r. ⌜ Puts (now (out .entry)) at (number x behind) (now (out .exit)) r ⌝ }
 {
-    let end = text::put_decimal(out, at, x);
+    let end = figures::put_decimal(out, at, x);
     text::put_byte(out, end, behind)
 }
 

@@ -48,7 +48,7 @@ pub fn number(out: &mut [u8], at: usize, x: u64) -> usize
     ensures { λ r. ⌜ r ≤ length (now (out .entry)) ⌝ }
 {
     let to = room(out, at);
-    text::put_decimal(out, to, x)
+    figures::put_decimal(out, to, x)
 }
 
 // A number and the byte behind it.
@@ -65,5 +65,5 @@ pub fn hex(out: &mut [u8], at: usize, b: u8) -> usize
     ensures { λ r. ⌜ r ≤ length (now (out .entry)) ⌝ }
 {
     let to = room(out, at);
-    text::put_hex(out, to, b)
+    figures::put_hex(out, to, b)
 }

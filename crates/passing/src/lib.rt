@@ -16,7 +16,7 @@ pub fn scan_sector(image: &[u8], sector: usize, seq: u32) -> RegionScan
     requires { ⌜ (sector < 16) × (sector * 4096 + 4096 ≤ length (now image)) ⌝ }
     ensures { λ r. ⌜ r ≡ regionRead sector seq (headIn (slotAt (now (image .entry)) sector)) (recordsIn seq (slotAt (now (image .entry)) sector)) ⌝ }
 {
-    let start = sealing::under(seq);
+    let start = checking::under(seq);
     let mut table = records::empty_table();
     let mut tags = [0u8; LIMIT];
     let mut ids = [0u8; LIMIT];

@@ -60,7 +60,7 @@ pub fn encode_from(record: Raw, start: u32) -> [u8; 16]
 pub fn encode(record: Raw, seq: u32) -> [u8; 16]
     ensures { λ r. ⌜ r ≡ slotOf seq «record» ⌝ }
 {
-    encode_from(record, sealing::under(seq))
+    encode_from(record, checking::under(seq))
 }
 
 // The record in a slot, from the register that the sector's seq left; none where byte 0 is FF or the checksum differs.
@@ -73,7 +73,7 @@ pub fn decode_from(slot: &[u8], start: u32) -> OptRaw
     if slot[0] == 0xFF {
         return nothing();
     }
-    if sealing::check12(start, slot) != sealing::carried(slot) {
+    if checking::check12(start, slot) != checking::carried(slot) {
         return nothing();
     }
     let r = from_slot(slot);
@@ -84,5 +84,5 @@ pub fn decode_from(slot: &[u8], start: u32) -> OptRaw
 pub fn decode(slot: &[u8], seq: u32) -> OptRaw
     ensures { λ r. ⌜ r ≡ decoded seq (now (slot .entry)) ⌝ }
 {
-    decode_from(slot, sealing::under(seq))
+    decode_from(slot, checking::under(seq))
 }

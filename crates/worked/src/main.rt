@@ -218,18 +218,18 @@ fn one_spend() {
 fn turned_away() {
     let pin = CounterState::fresh(3);
     let mut short = [0xFFu8; 4095];
-    let d = log::put(&mut short, crowded(33), calm(), 1, pin);
+    let d = putting::put(&mut short, crowded(33), calm(), 1, pin);
     let _ = call_line(b"4,095 bytes: ", &short, d);
     let mut image = [0xFFu8; 8192];
-    let d = log::put(&mut image, crowded(257), calm(), 1, pin);
+    let d = putting::put(&mut image, crowded(257), calm(), 1, pin);
     let _ = call_line(b"head 257: ", &image, d);
-    let d = log::put(&mut image, crowded(33), calm(), 9, pin);
+    let d = putting::put(&mut image, crowded(33), calm(), 9, pin);
     let _ = call_line(b"credential 9: ", &image, d);
     let blank = records::empty(State::Unformatted, 1);
-    let d = log::put(&mut image, blank, calm(), 1, pin);
+    let d = putting::put(&mut image, blank, calm(), 1, pin);
     let _ = call_line(b"put, unformatted: ", &image, d);
     let failed = records::empty(State::Failed, 1);
-    let d = log::put(&mut image, failed, calm(), 1, pin);
+    let d = putting::put(&mut image, failed, calm(), 1, pin);
     let _ = call_line(b"put, failed: ", &image, d);
 }
 
@@ -247,11 +247,11 @@ fn refused() {
     let blank = records::empty(State::Unformatted, 1);
     let d = starting::format(&mut image, blank, erase_refused, user_pin(), 1);
     let _ = call_line(b"format, erases refused: ", &image, d);
-    let d = log::put_value(&mut image, crowded(33), calm(), 5, 4);
+    let d = putting::put_value(&mut image, crowded(33), calm(), 5, 4);
     let _ = call_line(b"a 33rd key: ", &image, d);
-    let d = log::put(&mut image, crowded(33), calm(), 1, counter(3, 2, 0));
+    let d = putting::put(&mut image, crowded(33), calm(), 1, counter(3, 2, 0));
     let l = call_line(b"put of total 2: ", &image, d);
-    let d = log::put(&mut image, l, calm(), 1, counter(3, 1, 0));
+    let d = putting::put(&mut image, l, calm(), 1, counter(3, 1, 0));
     let _ = call_line(b"put of total 1 over it: ", &image, d);
 }
 

@@ -1,16 +1,13 @@
-// Writing to the flash: a slot, an erase and a sector with its records, each with what it used of the plan.
-// The commit to one of the other sectors and the append with its three tries stand in committing and appending.
+// Writing to the flash: a slot and an erase, each with what it used of the plan.
+// Defined here and worked in rewriting, committing and appending: a sector, the commit to one of the others, the append with its three tries.
 use basics::Answer;
-use codec::Raw;
 use flash::Plan;
-use records::LIMIT;
 use records::State;
 ghost use mathlib.Core.Path.{_≡_};
 ghost use mathlib.Core.Bool.{Bool};
 ghost use Prim.Native.Nat.{_+_, _*_, _≤_, _<_};
-ghost use lib.ListN.{length, take};
+ghost use lib.ListN.{length};
 ghost use Rattle.flash.specs.Run as run;
-ghost use Rattle.writing.specs.Sectors.{writeRecords, writeSector};
 ghost use Rattle.writing.specs.Shown.{flashWith, Steps};
 
 // What a call has used of its plan so far, and the bytes that it has programmed and erased.
@@ -76,60 +73,4 @@ pub fn erase(image: &mut [u8], sector: usize, used: Used) -> Step
             erased: used.erased + n,
         },
     }
-}
-
-// The records, in slots from 1 on.
-fn write_records(
-    image: &mut [u8],
-    sector: usize,
-    seq: u32,
-    table: [Raw; LIMIT],
-    count: usize,
-    used: Used,
-) -> Step
-    requires { ⌜ (count ≤ 32) × (sector * 4096 + 4096 ≤ length (now image)) × (used .programmed ≤ 20000) ⌝ }
-    ensures { λ r. ⌜ Steps (λ (cut : Bool). writeRecords sector seq 1 (take count table) (flashWith (now (image .entry)) used cut)) r (now (image .exit)) ⌝ }
-{
-    let start = sealing::under(seq);
-    let mut u = used;
-    let mut i: usize = 0;
-    while i < count {
-        let r = table[i];
-        let s = program(image, sector, i + 1, slots::encode_from(r, start), u);
-        let answer = s.answer;
-        if !basics::is_done(answer) {
-            return s;
-        }
-        u = s.used;
-        i += 1;
-    }
-    Step {
-        answer: Answer::Done,
-        used: u,
-    }
-}
-
-// A sector with these records: erased and checked, the records, and the header last.
-pub fn write_sector(
-    image: &mut [u8],
-    sector: usize,
-    seq: u32,
-    table: [Raw; LIMIT],
-    count: usize,
-    used: Used,
-) -> Step
-    requires { ⌜ (count ≤ 32) × (sector * 4096 + 4096 ≤ length (now image)) × (used .programmed ≤ 19000) × (used .erased < 131073) ⌝ }
-    ensures { λ r. ⌜ Steps (λ (cut : Bool). writeSector sector seq (take count table) (flashWith (now (image .entry)) used cut)) r (now (image .exit)) ⌝ }
-{
-    let e = erase(image, sector, used);
-    let erased = e.answer;
-    if !basics::is_done(erased) {
-        return e;
-    }
-    let w = write_records(image, sector, seq, table, count, e.used);
-    let written = w.answer;
-    if !basics::is_done(written) {
-        return w;
-    }
-    program(image, sector, 0, headers::encode_header(seq), w.used)
 }

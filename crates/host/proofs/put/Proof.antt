@@ -12,8 +12,8 @@ use Rattle.records.specs.declared.Log.{Log}
 use Rattle.ids.proofs.CounterState as CounterState
 use Rattle.ids.proofs.CounterState.Laws as CounterState′
 use Rattle.log.specs.Calls.{putOf}
-use Rattle.log.proofs.put.Symbol as callee
-use Rattle.log.proofs.put.Met as callee-met
+use Rattle.putting.proofs.put.Symbol as callee
+use Rattle.putting.proofs.put.Met as callee-met
 use Rattle.host.proofs.plan_after.Symbol as reader
 use Rattle.host.proofs.plan_after.Met as reader-met
 use Rattle.host.proofs.put.Key as key

@@ -10,8 +10,8 @@ use denote.Triple.Table.{entered, cited}
 use Rattle.flash.specs.declared.Plan.{Plan}
 use Rattle.records.specs.declared.Log.{Log}
 use Rattle.log.specs.Calls.{putValueOf}
-use Rattle.log.proofs.put_value.Symbol as callee
-use Rattle.log.proofs.put_value.Met as callee-met
+use Rattle.putting.proofs.put_value.Symbol as callee
+use Rattle.putting.proofs.put_value.Met as callee-met
 use Rattle.host.proofs.plan_after.Symbol as reader
 use Rattle.host.proofs.plan_after.Met as reader-met
 use Rattle.host.proofs.put_value.Key as key

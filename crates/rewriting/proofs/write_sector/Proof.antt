@@ -1,4 +1,4 @@
--- `writing::write_sector` meets its contract.
+-- `rewriting::write_sector` meets its contract.
 use mathlib.Core.Path.{_≡_, sym, ap, _∙_}
 use mathlib.Core.Bool.{Bool, true}
 use mathlib.Core.List.{List}
@@ -9,13 +9,13 @@ use borrow.Author.Tests.{not-true, not-false}
 use Rattle.basics.specs.Answers.{isDone}
 use Rattle.codec.specs.declared.Raw.{Raw}
 use Rattle.flash.specs.Run.{Flash, Stepped, erase}
 use Rattle.writing.specs.Shown.{flashWith, Stepping}
 use Rattle.writing.proofs.Showing.{step-is}
 use Rattle.writing.proofs.Stepping.{wiped, filled, sector-unerased, sector-unfilled, sector-headed}
 use Rattle.writing.proofs.Costs.{erase-within, records-within}
 use borrow.Author.Needs.{needs}
-use Rattle.writing.proofs.write_sector.Statement.{statement}
-use Rattle.writing.proofs.write_sector.Tie as tie
+use Rattle.rewriting.proofs.write_sector.Statement.{statement}
+use Rattle.rewriting.proofs.write_sector.Tie as tie
 
 -- what each step shows, from the flash that the one before left
 abbrev start-of : tie.After-erase → tie.Start

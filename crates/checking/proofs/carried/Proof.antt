@@ -1,11 +1,11 @@
--- `sealing::carried` meets its contract.
+-- `checking::carried` meets its contract.
 use mathlib.Core.Path.{ap, _∙_}
 use Rattle.basics.proofs.Lists.{read-part}
 use native.Mathlib.Omega.{arith}
 use Rattle.basics.specs.Little.{leNumber}
 use borrow.Author.Needs.{needs}
-use Rattle.sealing.proofs.carried.Statement.{statement}
-use Rattle.sealing.proofs.carried.Tie as tie
+use Rattle.checking.proofs.carried.Statement.{statement}
+use Rattle.checking.proofs.carried.Tie as tie
 
 shared-slice-read-number4 : tie.Need-shared-slice-read-number4
 shared-slice-read-number4 c = search needs

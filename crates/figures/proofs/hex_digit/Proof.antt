@@ -1,10 +1,10 @@
--- `text::hex_digit` meets its contract.
+-- `figures::hex_digit` meets its contract.
 use mathlib.Core.Path.{sym}
 use native.Mathlib.Omega.{arith}
 use borrow.Author.Needs.{needs}
 use Rattle.text.proofs.Hex.{digit-low, digit-high}
-use Rattle.text.proofs.hex_digit.Statement.{statement}
-use Rattle.text.proofs.hex_digit.Tie as tie
+use Rattle.figures.proofs.hex_digit.Statement.{statement}
+use Rattle.figures.proofs.hex_digit.Tie as tie
 
 add-result : tie.Need-add-result
 add-result c = search needs

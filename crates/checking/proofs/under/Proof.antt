@@ -1,8 +1,8 @@
--- `sealing::under` meets its contract.
+-- `checking::under` meets its contract.
 use Rattle.codec.specs.Slots.{seqFed}
 use borrow.Author.Needs.{needs}
-use Rattle.sealing.proofs.under.Statement.{statement}
-use Rattle.sealing.proofs.under.Tie as tie
+use Rattle.checking.proofs.under.Statement.{statement}
+use Rattle.checking.proofs.under.Tie as tie
 
 start-requires : tie.Need-start-requires
 start-requires c κs = search needs

@@ -1,4 +1,4 @@
--- `log::put_value` meets its contract.
+-- `putting::put_value` meets its contract.
 use mathlib.Core.Path.{_≡_, ap₂, _∙_}
 use mathlib.Core.Bool.{Bool}
 use Prim.Native.Nat.{ℕ}
@@ -11,10 +11,10 @@ use Rattle.deciding.specs.Decisions.{valueDecision}
 use Rattle.deciding.proofs.Keyed.{value-keyed}
 use Rattle.reading.specs.Entering.{entryOf}
 use Rattle.performing.proofs.Calling.{call-ready, call-meets}
 use Rattle.log.specs.Calls.{putValueOf}
 use borrow.Author.Needs.{needs}
-use Rattle.log.proofs.put_value.Statement.{statement}
-use Rattle.log.proofs.put_value.Tie as tie
+use Rattle.putting.proofs.put_value.Statement.{statement}
+use Rattle.putting.proofs.put_value.Tie as tie
 
 abbrev start-of : tie.After-enter → tie.Start
 start-of e = e .before .before .before .before

@@ -1,13 +1,13 @@
--- `text::put_decimal` meets its contract. The loop's invariant: the digits from `first` on are written, and `rest` is left.
+-- `figures::put_decimal` meets its contract. The loop's invariant: the digits from `first` on are written, and `rest` is left.
 use mathlib.Core.Path.{_≡_, subst}
 use mathlib.Core.List.{List}
 use Prim.Native.Nat.{ℕ, _+_, _-_}
 use native.Mathlib.Omega.{arith}
 use lib.ListN.{take, drop, set, length-set}
 use Rattle.text.specs.Text.{decimal, Puts}
 use Rattle.text.proofs.Decimal.{Spelling, spelling, spell-more, spell-end}
-use Rattle.text.proofs.put_decimal.Statement.{statement}
-use Rattle.text.proofs.put_decimal.Tie as tie
+use Rattle.figures.proofs.put_decimal.Statement.{statement}
+use Rattle.figures.proofs.put_decimal.Tie as tie
 
 abbrev Inv-loop : tie.InvT-loop
 Inv-loop out at x places₀ first₀ rest₀ places first rest = Spelling x places first rest

@@ -1,13 +1,13 @@
--- `text::put_hex` meets its contract.
+-- `figures::put_hex` meets its contract.
 use mathlib.Core.Path.{subst}
 use mathlib.Core.List.{[], _∷_}
 use Prim.Native.Nat.{ℕ, _/_, _%_}
 use native.Mathlib.Omega.{arith}
 use borrow.Author.Needs.{needs}
 use Rattle.text.specs.Text.{hexDigit, hexOf, Puts}
 use Rattle.text.proofs.Putting.{put-then}
-use Rattle.text.proofs.put_hex.Statement.{statement}
-use Rattle.text.proofs.put_hex.Tie as tie
+use Rattle.figures.proofs.put_hex.Statement.{statement}
+use Rattle.figures.proofs.put_hex.Tie as tie
 
 hex-digit-requires : tie.Need-hex-digit-requires
 hex-digit-requires c κs = search needs

@@ -1,8 +1,8 @@
--- `sealing::check12` meets its contract.
+-- `checking::check12` meets its contract.
 use Rattle.codec.specs.Slots.{crcFrom}
 use borrow.Author.Needs.{needs}
-use Rattle.sealing.proofs.check12.Statement.{statement}
-use Rattle.sealing.proofs.check12.Tie as tie
+use Rattle.checking.proofs.check12.Statement.{statement}
+use Rattle.checking.proofs.check12.Tie as tie
 
 sub-update : tie.Need-sub-update
 sub-update c = search needs

@@ -1,4 +1,4 @@
--- `log::put` meets its contract.
+-- `putting::put` meets its contract.
 use mathlib.Core.Path.{_≡_, ap₂, _∙_}
 use mathlib.Core.Bool.{Bool}
 use Prim.Native.Nat.{ℕ}
@@ -11,10 +11,10 @@ use Rattle.deciding.specs.Decisions.{putDecision}
 use Rattle.deciding.proofs.Keyed.{put-keyed}
 use Rattle.reading.specs.Entering.{entryOf}
 use Rattle.performing.proofs.Calling.{call-ready, call-meets}
 use Rattle.log.specs.Calls.{putOf}
 use borrow.Author.Needs.{needs}
-use Rattle.log.proofs.put.Statement.{statement}
-use Rattle.log.proofs.put.Tie as tie
+use Rattle.putting.proofs.put.Statement.{statement}
+use Rattle.putting.proofs.put.Tie as tie
 
 abbrev start-of : tie.After-enter → tie.Start
 start-of e = e .before .before .before .before

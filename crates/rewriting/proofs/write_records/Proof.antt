@@ -1,4 +1,4 @@
--- `writing::write_records` meets its contract.
+-- `rewriting::write_records` meets its contract.
 use mathlib.Core.Path.{_≡_, refl, sym, ap, _∙_}
 use mathlib.Core.Bool.{Bool, true}
 use mathlib.Core.List.{List}
@@ -13,14 +13,14 @@ use Rattle.codec.proofs.Laws.{sealed-from}
 use Rattle.flash.specs.Run.{Stepped, program}
 use Rattle.records.proofs.Joining.{nowhere}
 use Rattle.basics.specs.Answers.{isDone}
 use Rattle.writing.specs.declared.Step.{Step}
 use Rattle.writing.specs.Sectors.{writeRecords}
 use Rattle.writing.specs.Shown.{flashWith, Stepping}
 use Rattle.writing.proofs.Showing.{step-is}
 use Rattle.writing.proofs.Stepping.{one, records-end, records-on, records-stop}
 use Rattle.writing.proofs.Costs.{program-within}
-use Rattle.writing.proofs.write_records.Statement.{statement}
-use Rattle.writing.proofs.write_records.Tie as tie
+use Rattle.rewriting.proofs.write_records.Statement.{statement}
+use Rattle.rewriting.proofs.write_records.Tie as tie
 
 abbrev Inv-loop : tie.InvT-loop
 Inv-loop image₀ sector seq count table start u₀ i₀ image u i =

@@ -1,0 +1,34 @@
+// The calls that write one record: put and put_value. Each looks for itself, decides, and performs what it decided.
+use flash::Plan;
+use ids::CounterState;
+use performing::Done;
+use records::Log;
+ghost use mathlib.Core.Path.{_≡_};
+ghost use Rattle.performing.specs.Outcomes.{Meets};
+ghost use Rattle.log.specs.Calls.{putOf, putValueOf};
+
+pub fn put(image: &mut [u8], log: Log, plan: Plan, credential: u8, new: CounterState) -> Done
+    ensures { λ r. ⌜ Meets (putOf (now (image .entry)) log plan credential new) r (now (image .exit)) ⌝ }
+{
+    let n = flash::sectors(image.len());
+    let e = reading::enter(
+        log,
+        n,
+        meanings::is_credential(credential),
+        ids::COUNTER_TAG,
+        credential,
+    );
+    let held = e.held;
+    let d = puts::put_decision(held, e.room, credential, new);
+    acting::perform(image, log, performing::unused(plan), n, e, d)
+}
+
+pub fn put_value(image: &mut [u8], log: Log, plan: Plan, id: u8, new: u64) -> Done
+    ensures { λ r. ⌜ Meets (putValueOf (now (image .entry)) log plan id new) r (now (image .exit)) ⌝ }
+{
+    let n = flash::sectors(image.len());
+    let e = reading::enter(log, n, meanings::is_value(id), ids::VALUE_TAG, id);
+    let held = e.held;
+    let d = puts::value_decision(held, e.room, id, new);
+    acting::perform(image, log, performing::unused(plan), n, e, d)
+}
