@@ -3,7 +3,7 @@ use mathlib.Core.Path.{_≡_, refl, sym, ap, subst}
 use mathlib.Core.Bool.{Bool, true, false, false≢true}
 use mathlib.Core.List.{List, [], _∷_}
 use mathlib.Core.Logic.{inl, inr}
-use Prim.Native.Nat.{ℕ, zero, suc, _+_, _≤_}
+use Prim.Native.Nat.{ℕ, zero, suc, _≤_}
 use native.Mathlib.Omega.{arith}
 use lib.Dec.{eqb, leb}
 use lib.ListN.{length, take, length-take}
@@ -13,10 +13,10 @@ use Rattle.basics.specs.Answers.{isDone}
 use Rattle.basics.specs.declared.Answer.the-variants.{NotFormatted}
 use Rattle.basics.proofs.Choice.{first, by-test}
 use Rattle.ids.specs.declared.Anchor.{Anchor}
-use Rattle.ids.specs.Ids.{anchorTag, counterTag, valueTag, lamport, isCredential, isValue}
+use Rattle.ids.specs.Ids.{anchorTag}
 use Rattle.codec.specs.declared.Raw.{Raw}
 use Rattle.codec.specs.declared.OptRaw.{OptRaw}
-use Rattle.bodies.specs.Bodies.{anchorRecord, counterRecord, valueRecord}
+use Rattle.bodies.specs.Bodies.{anchorRecord}
 use Rattle.bodies.proofs.RoundTrip.{anchor-made}
 use Rattle.flash.specs.declared.Plan.{Plan}
 use Rattle.flash.specs.Image.{sectorsIn}
@@ -27,28 +27,26 @@ use Rattle.records.specs.declared.Log.{Log}
 use Rattle.records.specs.Table.{joined}
 use Rattle.records.specs.Logs.{recordsOf}
 use Rattle.deciding.specs.declared.Decision.{Decision}
-use Rattle.deciding.specs.Decisions.{whenActive, anchorDecision, putDecision, valueDecision}
+use Rattle.deciding.specs.Decisions.{whenActive, anchorDecision}
 use Rattle.reading.specs.Entering.{entryAnswer, heldOf, roomFor}
 use Rattle.reading.proofs.Entering.{let-in-by}
 use Rattle.seeding.specs.declared.Seed.{Seed}
 use Rattle.seeding.specs.Seeds.{allKnown, seedsKnown, seedTable}
 use Rattle.performing.specs.Outcomes.{Outcome, flashOf, refused, entered}
 use Rattle.performing.specs.Performing.{decided, formatted}
-use Rattle.log.specs.Calls.{isFirst, anchorCall, anchoredFirst, anchored, putAnchorOf, formatOn, formatOf, putOf, putValueOf}
+use Rattle.log.specs.Calls.{isFirst, anchorCall, anchoredFirst, anchored, putAnchorOf, formatOn, formatOf}
 use Rattle.demands.specs.Chance.{Unmatched}
 use Rattle.demands.specs.Healthy.{healthy}
 use Rattle.demands.specs.Shown.{Seen, seenBy, seen, Table, holding, tableIn, tableOf}
 use Rattle.demands.specs.Typed.{TypedAnchor, TypedSeeds}
-use Rattle.demands.specs.Calls.{Call, put, put-value, put-anchor, format, spend, set-tries, advance-lamport, outcomeOf, Typed, tableAfter, AnchorLeft, Left, recordOf, anchorTo, appendsTo}
+use Rattle.demands.specs.Calls.{Call, outcomeOf, Typed, tableAfter, AnchorLeft, Left, recordOf, anchorTo, appendsTo}
 use Rattle.demands.proofs.Tables.{Proper, proper-none, Writable}
 use Rattle.demands.proofs.Invariant.{Inv}
 use Rattle.demands.proofs.Performing.{Always, SafeCall, refusal-safe, safe-weaker, Writes, writes-writable, decidedTable, performed-safe, formatted-safe}
 use Rattle.demands.proofs.Attaining.{Attains, attained, performed-attains, formatted-attains}
 use Rattle.demands.proofs.First.{OrEmpty, first-safe, first-attains}
-use Rattle.demands.proofs.Deciding.{Sound, put-sound, value-sound, anchor-writes, anchor-sound, anchor-first-writes, seeded-proper}
-use Rattle.demands.proofs.Trying.{spend-sound, set-sound, advance-sound}
-use Rattle.tries.specs.Tries.{startOf, spendDecision, spendOf, setDecision, setOf, seenOf, advanceDecision, advanceOf}
-use Rattle.ids.specs.Counters.{oneMore, resetOf}
+use Rattle.demands.proofs.Deciding.{Sound, anchor-writes, anchor-sound, anchor-first-writes, seeded-proper}
+use Rattle.demands.proofs.Shapes.{Shape, by-kind}
 
 -- ---- tests first
 module _ (image : List ℕ) (log : Log) (i : Inv image log) (known : Bool) (call : ℕ → Log → Flash → Outcome) where
@@ -224,19 +222,7 @@ module _ (image : List ℕ) (log : Log) (i : Inv image log) where
 -- ---- every call
 pub call-safe : (image : List ℕ) (log : Log) → Inv image log → (c : Call) → Typed c → (plan : Plan)
     → SafeCall (sectorsIn (length image)) (Unmatched (appendsTo c image log plan) (recordOf c (recordsOf log))) (Left c log) (tableAfter c image log) (outcomeOf c image log plan)
-unfolding putOf putValueOf spendOf setOf advanceOf
-call-safe image log i (put credential new) typed plan =
-    keyed-safe image log i (isCredential credential) counterTag credential (λ (held : OptRaw) (room : Bool). putDecision held room credential new) (λ t. counterRecord credential new) (put-sound credential new (typed .0) (typed .1)) plan
-call-safe image log i (put-value id new) typed plan =
-    keyed-safe image log i (isValue id) valueTag id (λ (held : OptRaw) (room : Bool). valueDecision held room id new) (λ t. valueRecord id new) (value-sound id new (typed .0) (typed .1)) plan
-call-safe image log i (put-anchor new) typed plan = anchor-safe image log i new typed plan
-call-safe image log i (format seeds count) typed plan = format-safe image log i seeds count typed plan
-call-safe image log i (spend credential current) typed plan =
-    keyed-safe image log i (isCredential credential) counterTag credential (λ (held : OptRaw) (room : Bool). spendDecision held room credential current)
-    (λ t. counterRecord credential (oneMore (startOf (heldOf counterTag credential t) current))) (spend-sound credential current (typed .0) (typed .1)) plan
-call-safe image log i (set-tries credential tries) typed plan =
-    keyed-safe image log i (isCredential credential) counterTag credential (λ (held : OptRaw) (room : Bool). setDecision held room credential tries)
-    (λ t. counterRecord credential (resetOf (startOf (heldOf counterTag credential t) tries) tries)) (set-sound credential tries (typed .0) (typed .1)) plan
-call-safe image log i (advance-lamport latest) typed plan =
-    keyed-safe image log i true valueTag lamport (λ (held : OptRaw) (room : Bool). advanceDecision held room latest)
-    (λ t. valueRecord lamport (seenOf (heldOf valueTag lamport t) latest + 1)) (advance-sound latest typed) plan
+call-safe image log i =
+    by-kind (λ (x : Shape). x .typed → (plan : Plan)
+    → SafeCall (sectorsIn (length image)) (Unmatched (x .appends image log plan) (x .writes (recordsOf log))) (x .left log) (tableOf (x .outcome image log healthy .log)) (x .outcome image log plan))
+    (λ typed known tag id d r m t plan. keyed-safe image log i known tag id d r (m .sound t) plan) (anchor-safe image log i) (format-safe image log i)

@@ -13,11 +13,10 @@ use Rattle.basics.specs.declared.Answer.{Answer}
 use Rattle.basics.specs.declared.Answer.the-variants.{Done, NotFormatted, ReadError, WriteError}
 use Rattle.basics.proofs.Choice.{first, by-test}
 use Rattle.ids.specs.declared.Anchor.{Anchor}
-use Rattle.ids.specs.Ids.{counterTag, valueTag, anchorTag, lamport, isCredential, isValue}
+use Rattle.ids.specs.Ids.{anchorTag}
 use Rattle.codec.specs.declared.Raw.{Raw}
 use Rattle.codec.specs.declared.OptRaw.{OptRaw}
-use Rattle.ids.specs.Counters.{oneMore, resetOf}
-use Rattle.bodies.specs.Bodies.{anchorBody, counterRecord, valueRecord, anchorRecord}
+use Rattle.bodies.specs.Bodies.{anchorBody, anchorRecord}
 use Rattle.bodies.proofs.RoundTrip.{anchor-made}
 use Rattle.flash.specs.declared.Plan.{Plan}
 use Rattle.flash.specs.Image.{sectorsIn}
@@ -33,7 +32,7 @@ use Rattle.writing.specs.Commits.{Wrote, after, commitFrom, commitFirst}
 use Rattle.writing.specs.Appends.{appendOf}
 use Rattle.writing.proofs.Stepping.{after-within}
 use Rattle.deciding.specs.declared.Decision.{Decision}
-use Rattle.deciding.specs.Decisions.{whenActive, putDecision, valueDecision, anchorDecision}
+use Rattle.deciding.specs.Decisions.{whenActive, anchorDecision}
 use Rattle.reading.specs.Entering.{entryAnswer, heldOf, roomFor}
 use Rattle.reading.proofs.Entering.{let-in-by}
 use Rattle.seeding.specs.declared.Seed.{Seed}
@@ -41,12 +40,11 @@ use Rattle.seeding.specs.Seeds.{allKnown, seedsKnown, seedTable}
 use Rattle.seeding.proofs.Seeding.{seeded-most}
 use Rattle.performing.specs.Outcomes.{Outcome, flashOf, refused, entered}
 use Rattle.performing.specs.Performing.{wroteOutcome, appended, performed, decided}
-use Rattle.log.specs.Calls.{isFirst, putOf, putValueOf, anchorCall, anchoredFirst, anchored, putAnchorOf, formatOn, formatOf}
-use Rattle.tries.specs.Tries.{startOf, spendDecision, spendOf, setDecision, setOf, seenOf, advanceDecision, advanceOf}
-use Rattle.demands.specs.Calls.{Call, put, put-value, put-anchor, format, spend, set-tries, advance-lamport, outcomeOf}
+use Rattle.log.specs.Calls.{isFirst, anchorCall, anchoredFirst, anchored, putAnchorOf, formatOn, formatOf}
+use Rattle.demands.specs.Calls.{Call, outcomeOf}
 use Rattle.demands.proofs.Endings.{Fails}
-use Rattle.demands.proofs.Deciding.{Decided, refuses, gives, writes, put-decided, value-decided, held-blank, anchor-decided, anchor-first-writes}
-use Rattle.demands.proofs.Trying.{spend-decided, set-decided, advance-decided}
+use Rattle.demands.proofs.Deciding.{Decided, refuses, gives, writes, anchor-decided, anchor-first-writes}
+use Rattle.demands.proofs.Shapes.{Shape, Decides, by-kind}
 
 -- a commit that is done leaves an Active state in the image, with head behind the records
 pub record Fresh (n : ℕ) (t : List Raw) (w : Wrote) : Type 0 where
@@ -100,23 +98,22 @@ module _ (image : List ℕ) (log : Log) (plan : Plan) where
       by-test Course (isDone (entryAnswer n log known)) _ _ (λ e. let passed = let-in-by n log known e in course (passed .0) (passed .1) (passed .2)) (λ e. refusal (entryAnswer n log known) e)
 
   -- ---- a decision
-  module _ (fits : logFits n log ≡ true) (r : Raw) (Q : Type 0) where
-    active-course : (s seq head : ℕ) → log .state ≡ Active s seq head → (d : Decision) → Decided (roomFor (r .tag) (r .id) t) r Q d → Course (performed d n log f)
-    unfolding performed roomFor
+  module _ (fits : logFits n log ≡ true) (r : Raw) (Q : Type 0) (free : Bool) (room : free ≡ true → hasRoom limit r t ≡ true) where
+    active-course : (s seq head : ℕ) → log .state ≡ Active s seq head → (d : Decision) → Decided free r Q d → Course (performed d n log f)
+    unfolding performed
     active-course s seq head e d (refuses a k) = refusal a k
     active-course s seq head e d (gives value) = given value
-    active-course s seq head e d (writes value room q) = subst (λ (z : State). Course (appended z n r value log f)) (sym e) (appends fits s seq head e r value room)
+    active-course s seq head e d (writes value k q) = subst (λ (z : State). Course (appended z n r value log f)) (sym e) (appends fits s seq head e r value (room k))
 
-    performed-course : (z : State) → log .state ≡ z → (d : Decision) → Decided (roomFor (r .tag) (r .id) t) r Q d → Course (performed (whenActive z d) n log f)
+    performed-course : (z : State) → log .state ≡ z → (d : Decision) → Decided free r Q d → Course (performed (whenActive z d) n log f)
     unfolding performed
     performed-course Unformatted e d made = refusal NotFormatted refl
     performed-course Failed e d made = refusal ReadError refl
     performed-course (Active s seq head) e d made = active-course s seq head e d made
 
-  keyed-course : (known : Bool) (r : Raw) (Q : Type 0) (d : OptRaw → Bool → Decision) → Decided (roomFor (r .tag) (r .id) t) r Q (d (heldOf (r .tag) (r .id) t) (roomFor (r .tag) (r .id) t))
-      → Course (entered image log plan known (decided (r .tag) (r .id) d))
-  keyed-course known r Q d made =
-      entered-course known (decided (r .tag) (r .id) d) (λ some fits k. performed-course fits r Q (log .state) refl (d (heldOf (r .tag) (r .id) t) (roomFor (r .tag) (r .id) t)) made)
+  keyed-course : (typed : Type 0) (known : Bool) (tag id : ℕ) (d : OptRaw → Bool → Decision) (r : List Raw → Raw) → Decides typed tag id d r → Course (entered image log plan known (decided tag id d))
+  keyed-course typed known tag id d r k =
+      entered-course known (decided tag id d) (λ some fits _. performed-course fits (r t) (k .Q t) (roomFor tag id t) (k .room t) (log .state) refl (d (heldOf tag id t) (roomFor tag id t)) (k .made t))
 
   -- ---- a format
   format-course : (seeds : List Seed) (count : ℕ) → Course (formatOf image log plan seeds count)
@@ -151,7 +148,7 @@ module _ (image : List ℕ) (log : Log) (plan : Plan) where
         (anchors fits some e d (fresh .sector) (fresh .seq) (fresh .within) (fresh .state-is) (made [] .rec) (made [] .value)))
 
     anchored-course : 0 < n → logFits n log ≡ true → (z : State) → log .state ≡ z → Course (anchored z new n log f)
-    unfolding anchoredFirst
+    unfolding anchoredFirst roomFor
     anchored-course some fits Unformatted e = by-test Course (isFirst new) _ _ (λ k. by-format k) (λ _. refusal NotFormatted refl)
       where
         o : State → Outcome
@@ -165,7 +162,7 @@ module _ (image : List ℕ) (log : Log) (plan : Plan) where
             (λ d. formats fits some e [] (omega arith)))
     anchored-course some fits Failed e = refusal ReadError refl
     anchored-course some fits (Active s seq head) e =
-        performed-course fits (record { tag = anchorTag; id = 0; body = anchorBody new }) (anchorRecord new .raw ≡ record { tag = anchorTag; id = 0; body = anchorBody new }) (log .state) refl (made t)
+        performed-course fits (record { tag = anchorTag; id = 0; body = anchorBody new }) (anchorRecord new .raw ≡ record { tag = anchorTag; id = 0; body = anchorBody new }) (roomFor anchorTag 0 t) (λ k. k) (log .state) refl (made t)
         (anchor-decided (heldOf anchorTag 0 t) (roomFor anchorTag 0 t) new)
 
     anchor-course : Course (putAnchorOf image log plan new)
@@ -174,21 +171,4 @@ module _ (image : List ℕ) (log : Log) (plan : Plan) where
 
   -- ---- every call
   pub call-course : (c : Call) → Course (outcomeOf c image log plan)
-  unfolding putOf putValueOf spendOf setOf advanceOf
-  call-course (put credential new) =
-      keyed-course (isCredential credential) (counterRecord credential new) (Unit {0}) (λ (held : OptRaw) (room : Bool). putDecision held room credential new)
-      (put-decided (heldOf counterTag credential t) (roomFor counterTag credential t) credential new)
-  call-course (put-value id new) =
-      keyed-course (isValue id) (valueRecord id new) _ (λ (held : OptRaw) (room : Bool). valueDecision held room id new)
-      (value-decided (heldOf valueTag id t) (roomFor valueTag id t) id new (held-blank valueTag id t))
-  call-course (put-anchor new) = anchor-course new
-  call-course (format seeds count) = format-course seeds count
-  call-course (spend credential current) =
-      keyed-course (isCredential credential) (counterRecord credential (oneMore (startOf (heldOf counterTag credential t) current))) _ (λ (held : OptRaw) (room : Bool). spendDecision held room credential current)
-      (spend-decided (roomFor counterTag credential t) credential (startOf (heldOf counterTag credential t) current))
-  call-course (set-tries credential tries) =
-      keyed-course (isCredential credential) (counterRecord credential (resetOf (startOf (heldOf counterTag credential t) tries) tries)) (Unit {0}) (λ (held : OptRaw) (room : Bool). setDecision held room credential tries)
-      (set-decided (heldOf counterTag credential t) (roomFor counterTag credential t) credential tries)
-  call-course (advance-lamport latest) =
-      keyed-course true (valueRecord lamport (seenOf (heldOf valueTag lamport t) latest + 1)) _ (λ (held : OptRaw) (room : Bool). advanceDecision held room latest)
-      (advance-decided (heldOf valueTag lamport t) (roomFor valueTag lamport t) latest)
+  call-course = by-kind (λ (x : Shape). Course (x .outcome image log plan)) keyed-course anchor-course format-course

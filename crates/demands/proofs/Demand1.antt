@@ -5,7 +5,7 @@ use mathlib.Core.List.{List, [], _∷_}
 use Prim.Native.Nat.{ℕ, zero, suc, _+_}
 use lib.Dec.{eqb, leb}
 use lib.ListN.{length}
-use borrow.Author.Tests.{eq-eqb, ne-eqb}
+use borrow.Author.Tests.{eq-eqb}
 use Rattle.basics.specs.Choice.{pick}
 use Rattle.basics.specs.Lists.{same}
 use Rattle.basics.specs.Answers.{numberOf, isDone}
@@ -38,14 +38,15 @@ use Rattle.codec.specs.declared.OptRaw.{OptRaw}
 use Rattle.records.specs.Logs.{recordsOf, logOf}
 use Rattle.scan.specs.Opening.{scanOf, logFrom, openOf}
 use Rattle.deciding.specs.declared.Decision.{Decision}
-use Rattle.deciding.specs.Decisions.{whenActive, putDecision, valueDecision}
+use Rattle.deciding.specs.Decisions.{whenActive}
 use Rattle.seeding.specs.Seeds.{seedsKnown, seedTable}
 use Rattle.performing.specs.Performing.{performed, decided, formatted}
-use Rattle.log.specs.Calls.{isFirst, anchoredFirst, anchored as anchoredOn, formatOn, putOf, putValueOf, putAnchorOf, formatOf}
-use Rattle.tries.specs.Tries.{remainingIn, loadBy, spendDecision, spendOf, setDecision, setOf, advanceDecision, advanceOf}
-use Rattle.demands.specs.Calls.{Call, put, put-value, put-anchor, format, spend, set-tries, advance-lamport, outcomeOf}
+use Rattle.log.specs.Calls.{isFirst, anchoredFirst, anchored as anchoredOn, formatOn, putAnchorOf, formatOf}
+use Rattle.tries.specs.Tries.{remainingIn, loadBy}
+use Rattle.demands.specs.Calls.{Call, outcomeOf}
 use Rattle.demands.specs.Demand1.{leavesAll, knownIn, byState, stateAnswer, Refuses, Asked, get, get-value, remaining, anchor, lamport, needs-migration, load, replyOf, turnedAway, knownTo, stateReply, RefusesAsked, RefusesImage}
 use Rattle.demands.proofs.Courses.{Course, refusal, given, appends, formats, anchors, call-course}
+use Rattle.demands.proofs.Shapes.{Shape, by-kind}
 
 -- ---- a write answers 0, 6 or 7
 abbrev Writes : Answer → Type 0
@@ -126,14 +127,10 @@ module _ (image : List ℕ) (log : Log) (plan : Plan) where
   entered-refuses known call a e d = ap (λ (x : Answer). pick (isDone x) (call n log f) (refused x log f)) e ∙ ap (λ (b : Bool). pick b (call n log f) (refused a log f)) d
 
   call-refuses : (c : Call) (a : Answer) → entryAnswer n log (knownIn c) ≡ a → isDone a ≡ false → outcomeOf c image log plan ≡ refused a log f
-  unfolding putOf putValueOf putAnchorOf formatOf spendOf setOf advanceOf
-  call-refuses (put credential new) = entered-refuses (knownIn (put credential new)) _
-  call-refuses (put-value id new) = entered-refuses (knownIn (put-value id new)) _
-  call-refuses (put-anchor new) = entered-refuses (knownIn (put-anchor new)) _
-  call-refuses (format seeds count) = entered-refuses (knownIn (format seeds count)) _
-  call-refuses (spend credential current) = entered-refuses (knownIn (spend credential current)) _
-  call-refuses (set-tries credential tries) = entered-refuses (knownIn (set-tries credential tries)) _
-  call-refuses (advance-lamport latest) = entered-refuses (knownIn (advance-lamport latest)) _
+  unfolding putAnchorOf formatOf
+  call-refuses =
+      by-kind (λ (x : Shape). (a : Answer) → entryAnswer n log (x .known) ≡ a → isDone a ≡ false → x .outcome image log plan ≡ refused a log f)
+      (λ typed known tag id d r k. entered-refuses known (decided tag id d)) (λ new. entered-refuses true _) (λ seeds count. entered-refuses (seedsKnown seeds count) _)
 
   -- ---- a call that was let in
   module _ (some : n ≡ 0 → ⊥) (fits : logFits n log ≡ true) where
@@ -167,15 +164,12 @@ module _ (image : List ℕ) (log : Log) (plan : Plan) where
     anchor-not-ready new (Active sector seq head) e = absurd (false≢true (sym e))
 
     call-not-ready : (c : Call) → knownIn c ≡ true → isDone (stateAnswer c (log .state)) ≡ false → outcomeOf c image log plan ≡ refused (stateAnswer c (log .state)) log f
-    unfolding putOf putValueOf putAnchorOf formatOf spendOf setOf advanceOf
-    call-not-ready (put credential new) k e = keyed-not-ready (isCredential credential) counterTag credential (λ (held : OptRaw) (room : Bool). putDecision held room credential new) k e
-    call-not-ready (put-value id new) k e = keyed-not-ready (isValue id) valueTag id (λ (held : OptRaw) (room : Bool). valueDecision held room id new) k e
-    call-not-ready (put-anchor new) k e = entered-on true (λ (n : ℕ) (l : Log) (f : Flash). anchoredOn (l .state) new n l f) k ∙ anchor-not-ready new (log .state) e
-    call-not-ready (format seeds count) k e =
-        entered-on (seedsKnown seeds count) (λ (n : ℕ) (l : Log) (f : Flash). formatOn (l .state) (seedTable seeds count) n l f) k ∙ format-not-ready (seedTable seeds count) (log .state) e
-    call-not-ready (spend credential current) k e = keyed-not-ready (isCredential credential) counterTag credential (λ (held : OptRaw) (room : Bool). spendDecision held room credential current) k e
-    call-not-ready (set-tries credential tries) k e = keyed-not-ready (isCredential credential) counterTag credential (λ (held : OptRaw) (room : Bool). setDecision held room credential tries) k e
-    call-not-ready (advance-lamport latest) k e = keyed-not-ready true valueTag lamportId (λ (held : OptRaw) (room : Bool). advanceDecision held room latest) k e
+    unfolding putAnchorOf formatOf
+    call-not-ready =
+        by-kind (λ (x : Shape). x .known ≡ true → isDone (x .by-state (log .state)) ≡ false → x .outcome image log plan ≡ refused (x .by-state (log .state)) log f)
+        (λ typed known tag id d r m k e. keyed-not-ready known tag id d k e)
+        (λ new k e. entered-on true (λ (n : ℕ) (l : Log) (f : Flash). anchoredOn (l .state) new n l f) k ∙ anchor-not-ready new (log .state) e)
+        (λ seeds count k e. entered-on (seedsKnown seeds count) (λ (n : ℕ) (l : Log) (f : Flash). formatOn (l .state) (seedTable seeds count) n l f) k ∙ format-not-ready (seedTable seeds count) (log .state) e)
 
   pub demand-1 : (c : Call) → Refuses c image log plan
   demand-1 c = record {

@@ -5,7 +5,7 @@ use mathlib.Core.List.{List}
 use Prim.Native.Nat.{ℕ}
 use native.Mathlib.Omega.{arith}
 use lib.ListN.{length}
-use Rattle.ids.specs.Ids.{counterTag, valueTag, anchorTag, lamport, isCredential, isValue}
+use Rattle.ids.specs.declared.Anchor.{Anchor}
 use Rattle.codec.specs.declared.OptRaw.{OptRaw}
 use Rattle.flash.specs.Image.{sectorsIn}
 use Rattle.flash.specs.Run.{Flash}
@@ -14,27 +14,26 @@ use Rattle.records.specs.declared.State.the-variants.{Active}
 use Rattle.records.specs.declared.Log.{Log}
 use Rattle.records.specs.Logs.{recordsOf}
 use Rattle.deciding.specs.declared.Decision.{Decision}
-use Rattle.deciding.specs.Decisions.{whenActive, putDecision, valueDecision, anchorDecision}
+use Rattle.deciding.specs.Decisions.{whenActive}
 use Rattle.reading.specs.Entering.{heldOf, roomFor}
 use Rattle.seeding.specs.declared.Seed.{Seed}
 use Rattle.seeding.specs.Seeds.{seedsKnown, seedTable}
 use Rattle.performing.specs.Outcomes.{Outcome, flashOf, entered}
 use Rattle.performing.specs.Performing.{performed, decided}
-use Rattle.log.specs.Calls.{putOf, putValueOf, anchored, putAnchorOf, formatOn, formatOf}
-use Rattle.tries.specs.Tries.{spendDecision, spendOf, setDecision, setOf, advanceDecision, advanceOf}
+use Rattle.log.specs.Calls.{anchored, putAnchorOf, formatOn, formatOf}
 use Rattle.demands.specs.Healthy.{Healthy, healthy}
 use Rattle.demands.specs.Typed.{TypedSeeds}
-use Rattle.demands.specs.Calls.{Call, put, put-value, put-anchor, format, spend, set-tries, advance-lamport, outcomeOf, Typed}
+use Rattle.demands.specs.Calls.{Call, put-anchor, outcomeOf, Typed}
 use Rattle.demands.specs.Figures.{Reports, decisionOf, WritesWell, FormatsWell}
 use Rattle.demands.specs.Demand1.{knownIn}
 use Rattle.demands.proofs.Tables.{Writable}
 use Rattle.demands.proofs.Invariant.{Agrees, Inv, inv-fits}
 use Rattle.demands.proofs.Performing.{writes-writable}
 use Rattle.demands.proofs.Succeeding.{Succeeds, performed-appends, performed-rotates, formatted-succeeds}
-use Rattle.demands.proofs.Deciding.{put-sound, value-sound, anchor-sound}
-use Rattle.demands.proofs.Trying.{spend-sound, set-sound, advance-sound}
+use Rattle.demands.proofs.Deciding.{anchor-sound}
 use Rattle.demands.proofs.Calls.{seeds-proper}
 use Rattle.demands.proofs.Demand1.{entered-on}
+use Rattle.demands.proofs.Shapes.{Shape, by-kind}
 
 module _ (image : List ℕ) (log : Log) (i : Inv image log) where
   abbrev n : ℕ
@@ -67,28 +66,24 @@ module _ (image : List ℕ) (log : Log) (i : Inv image log) where
       entered-on image log healthy (active-some s seq head e) (inv-fits image log i) known (decided tag id d) k
       ∙ ap (λ (z : State). performed (whenActive z (d (heldOf tag id (recordsOf log)) (roomFor tag id (recordsOf log)))) n log f) e
 
-  call-is : (c : Call) → knownIn c ≡ true → (s seq head : ℕ) → log .state ≡ Active s seq head → decisionOf c (recordsOf log) .write ≡ true → outcomeOf c image log healthy ≡ performed (decisionOf c (recordsOf log)) n log f
-  unfolding putOf putValueOf putAnchorOf spendOf setOf advanceOf
-  call-is (put credential new) k s seq head e w = keyed-is (isCredential credential) counterTag credential (λ (held : OptRaw) (room : Bool). putDecision held room credential new) k s seq head e
-  call-is (put-value id new) k s seq head e w = keyed-is (isValue id) valueTag id (λ (held : OptRaw) (room : Bool). valueDecision held room id new) k s seq head e
-  call-is (put-anchor new) k s seq head e w =
-      entered-on image log healthy (active-some s seq head e) (inv-fits image log i) true (λ (n : ℕ) (l : Log) (f : Flash). anchored (l .state) new n l f) k
+  anchor-is : (new : Anchor) → (s seq head : ℕ) → log .state ≡ Active s seq head → putAnchorOf image log healthy new ≡ performed (decisionOf (put-anchor new) (recordsOf log)) n log f
+  unfolding putAnchorOf
+  anchor-is new s seq head e =
+      entered-on image log healthy (active-some s seq head e) (inv-fits image log i) true (λ (n : ℕ) (l : Log) (f : Flash). anchored (l .state) new n l f) refl
       ∙ ap (λ (z : State). anchored z new n log f) e
-      ∙ ap (λ (z : State). performed (whenActive z (anchorDecision (heldOf anchorTag 0 (recordsOf log)) (roomFor anchorTag 0 (recordsOf log)) new)) n log f) e
-  call-is (format seeds count) k s seq head e w = absurd (false≢true w)
-  call-is (spend credential current) k s seq head e w = keyed-is (isCredential credential) counterTag credential (λ (held : OptRaw) (room : Bool). spendDecision held room credential current) k s seq head e
-  call-is (set-tries credential tries) k s seq head e w = keyed-is (isCredential credential) counterTag credential (λ (held : OptRaw) (room : Bool). setDecision held room credential tries) k s seq head e
-  call-is (advance-lamport latest) k s seq head e w = keyed-is true valueTag lamport (λ (held : OptRaw) (room : Bool). advanceDecision held room latest) k s seq head e
+      ∙ ap (λ (z : State). performed (whenActive z (decisionOf (put-anchor new) (recordsOf log))) n log f) e
+
+  call-is : (c : Call) → knownIn c ≡ true → (s seq head : ℕ) → log .state ≡ Active s seq head → decisionOf c (recordsOf log) .write ≡ true → outcomeOf c image log healthy ≡ performed (decisionOf c (recordsOf log)) n log f
+  call-is =
+      by-kind (λ (x : Shape). x .known ≡ true → (s seq head : ℕ) → log .state ≡ Active s seq head → x .decision (recordsOf log) .write ≡ true → x .outcome image log healthy ≡ performed (x .decision (recordsOf log)) n log f)
+      (λ typed known tag id d r m k s seq head e w. keyed-is known tag id d k s seq head e) (λ new k s seq head e w. anchor-is new s seq head e) (λ seeds count k s seq head e w. absurd (false≢true w))
 
   -- what it writes may be written
   call-writable : (c : Call) → Typed c → decisionOf c (recordsOf log) .write ≡ true → Writable (decisionOf c (recordsOf log) .rec) (recordsOf log)
-  call-writable (put credential new) typed e = writes-writable _ _ (recordsOf log) (put-sound credential new (typed .0) (typed .1) (recordsOf log) (i .agrees .proper .whole) e)
-  call-writable (put-value id new) typed e = writes-writable _ _ (recordsOf log) (value-sound id new (typed .0) (typed .1) (recordsOf log) (i .agrees .proper .whole) e)
-  call-writable (put-anchor new) typed e = writes-writable _ _ (recordsOf log) (anchor-sound new typed (recordsOf log) (i .agrees .proper .whole) e)
-  call-writable (format seeds count) typed e = absurd (false≢true e)
-  call-writable (spend credential current) typed e = writes-writable _ _ (recordsOf log) (spend-sound credential current (typed .0) (typed .1) (recordsOf log) (i .agrees .proper .whole) e)
-  call-writable (set-tries credential tries) typed e = writes-writable _ _ (recordsOf log) (set-sound credential tries (typed .0) (typed .1) (recordsOf log) (i .agrees .proper .whole) e)
-  call-writable (advance-lamport latest) typed e = writes-writable _ _ (recordsOf log) (advance-sound latest typed (recordsOf log) (i .agrees .proper .whole) e)
+  call-writable =
+      by-kind (λ (x : Shape). x .typed → x .decision (recordsOf log) .write ≡ true → Writable (x .decision (recordsOf log) .rec) (recordsOf log))
+      (λ typed known tag id d r m t e. writes-writable _ _ (recordsOf log) (m .sound t (recordsOf log) (i .agrees .proper .whole) e))
+      (λ new t e. writes-writable _ _ (recordsOf log) (anchor-sound new t (recordsOf log) (i .agrees .proper .whole) e)) (λ seeds count t e. absurd (false≢true e))
 
   pub writes-well : (c : Call) → Typed c → WritesWell c image log
   writes-well c typed = record {

@@ -16,6 +16,7 @@ pub mod First
 -- What the calls decide, that each is safe, and the demands on sessions.
 pub mod Deciding
 pub mod Trying
+pub mod Shapes
 pub mod Calls
 pub mod Demand3
 pub mod Spends

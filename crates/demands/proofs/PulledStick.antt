@@ -1,12 +1,12 @@
 -- The tries of a credential that is held: each call by the table that it decides on, and so over a session.
 use mathlib.Core.Path.{_≡_, refl, sym, ap, subst, _∙_}
-use mathlib.Core.Bool.{Bool, true, false, _&&_, _||_, false≢true}
+use mathlib.Core.Bool.{Bool, true, false, _&&_, false≢true}
 use mathlib.Core.List.{List, [], _∷_}
 use mathlib.Core.Logic.{_⊎_, inl, inr}
 use Prim.Native.Nat.{ℕ, _+_, _<_}
 use native.Mathlib.Omega.{arith}
-use lib.Dec.{T, eqb, ltb}
-use lib.ListN.{length, getD}
+use lib.Dec.{T, eqb}
+use lib.ListN.{length}
 use lib.Pow.{areBytes}
 use borrow.Author.Tests.{eqb-true}
 use Rattle.basics.specs.Choice.{pick}
@@ -15,12 +15,12 @@ use Rattle.basics.specs.declared.Answer.{Answer}
 use Rattle.basics.proofs.Choice.{first, second, by-test}
 use Rattle.ids.specs.declared.CounterState.{CounterState}
 use Rattle.ids.specs.declared.Anchor.{Anchor}
-use Rattle.ids.specs.Ids.{counterTag, valueTag, anchorTag, lamport, isCredential, isValue}
+use Rattle.ids.specs.Ids.{counterTag, valueTag, anchorTag, lamport, isCredential}
 use Rattle.ids.specs.Counters.{freshOf, remainingOf, oneMore, resetOf}
 use Rattle.ids.proofs.Laws.{remaining-reset, failure-takes-one}
 use Rattle.codec.specs.declared.Raw.{Raw}
 use Rattle.codec.specs.declared.OptRaw.{OptRaw}
-use Rattle.codec.specs.Slots.{noRaw, some, none}
+use Rattle.codec.specs.Slots.{some}
 use Rattle.bodies.specs.Bodies.{counterRecord, counterIn, valueRecord, anchorBody, anchorRecord}
 use Rattle.bodies.proofs.RoundTrip.{counter-read}
 use Rattle.flash.specs.declared.Plan.{Plan}
@@ -29,18 +29,18 @@ use Rattle.flash.specs.Run.{Flash}
 use Rattle.records.specs.declared.State.{State}
 use Rattle.records.specs.declared.State.the-variants.{Unformatted, Failed, Active}
 use Rattle.records.specs.declared.Log.{Log}
-use Rattle.records.specs.Table.{limit, hasKey, placeOf, holds, joined}
+use Rattle.records.specs.Table.{hasKey, holds, joined}
 use Rattle.records.specs.Logs.{recordsOf}
 use Rattle.scan.specs.Opening.{openOf}
 use Rattle.deciding.specs.declared.Decision.{Decision}
-use Rattle.deciding.specs.Decisions.{whenActive, give, write, putDecision, valueDecision, anchorDecision}
+use Rattle.deciding.specs.Decisions.{whenActive, give, write, anchorDecision}
 use Rattle.reading.specs.Entering.{entryAnswer, heldOf, roomFor}
 use Rattle.seeding.specs.declared.Seed.{Seed}
 use Rattle.seeding.specs.Seeds.{seedsKnown, seedTable}
 use Rattle.performing.specs.Outcomes.{Outcome, flashOf, refused, entered}
 use Rattle.performing.specs.Performing.{decided}
-use Rattle.log.specs.Calls.{anchorCall, anchored, putAnchorOf, formatOn, formatOf, putOf, putValueOf}
-use Rattle.tries.specs.Tries.{startOf, spendDecision, spendOf, setDecision, setOf, seenOf, advanceDecision, advanceOf}
+use Rattle.log.specs.Calls.{anchorCall, anchored, putAnchorOf, formatOn, formatOf}
+use Rattle.tries.specs.Tries.{startOf, spendDecision, setDecision, setOf, seenOf}
 use Rattle.demands.specs.Chance.{Unmatched}
 use Rattle.demands.specs.Shown.{seen, Table, holding, tableIn, tableOf}
 use Rattle.demands.specs.Typed.{TypedAnchor}
@@ -50,11 +50,12 @@ use Rattle.demands.specs.Figures.{decisionOf}
 use Rattle.demands.specs.PulledStick.{woken, Lucky, Remain, Has, setting, KeepsSet, sets, begun, LeavesTries, NoneSets, begunIn, Between, Finds, KeepsCount}
 use Rattle.demands.proofs.Invariant.{Found, Inv, inv-open, open-inv}
 use Rattle.demands.proofs.Performing.{Always, WakesUp, SafeCall, lasted, stopped, refusal-safe, decidedTable}
-use Rattle.demands.proofs.Deciding.{Decided, refuses, gives, writes, Sound, put-decided, value-decided, held-blank, anchor-decided, put-sound, value-sound, anchor-sound}
-use Rattle.demands.proofs.Trying.{spend-decided, set-decided, advance-decided, spend-sound, set-sound, advance-sound}
+use Rattle.demands.proofs.Deciding.{Decided, refuses, gives, writes, Sound, put-decided, value-decided, held-blank, anchor-decided, anchor-sound}
+use Rattle.demands.proofs.Trying.{spend-decided, set-decided, advance-decided, set-sound}
 use Rattle.demands.proofs.Calls.{keyed-decided}
 use Rattle.demands.proofs.Demand3.{Agree, played-agrees}
 use Rattle.demands.proofs.Spends.{join-held, join-other, recordsIn, shown-records, spend-writes, keyed-answered}
+use Rattle.demands.proofs.Shapes.{Shape, by-kind}
 
 -- ---- the records that are found
 reopened : (image : List ℕ) (log : Log) → Inv image log → recordsOf (openOf image .log) ≡ recordsOf log
@@ -133,22 +134,9 @@ module _ (image : List ℕ) (log : Log) (i : Inv image log) where
         a = entryAnswer n log (seedsKnown seeds count)
 
     call-comes : (c : Call) → Typed c → (plan : Plan) → Comes (Unmatched (appendsTo c image log plan) (recordOf c t)) (decisionOf c t) (outcomeOf c image log plan)
-    unfolding putOf putValueOf spendOf setOf advanceOf
-    call-comes (put credential new) typed plan =
-        keyed-comes (isCredential credential) counterTag credential (λ (held : OptRaw) (room : Bool). putDecision held room credential new) (λ _. counterRecord credential new) (put-sound credential new (typed .0) (typed .1)) plan
-    call-comes (put-value id new) typed plan =
-        keyed-comes (isValue id) valueTag id (λ (held : OptRaw) (room : Bool). valueDecision held room id new) (λ _. valueRecord id new) (value-sound id new (typed .0) (typed .1)) plan
-    call-comes (put-anchor new) typed plan = anchor-comes new typed plan
-    call-comes (format seeds count) typed plan = format-comes seeds count plan
-    call-comes (spend credential current) typed plan =
-        keyed-comes (isCredential credential) counterTag credential (λ (held : OptRaw) (room : Bool). spendDecision held room credential current)
-        (λ t. counterRecord credential (oneMore (startOf (heldOf counterTag credential t) current))) (spend-sound credential current (typed .0) (typed .1)) plan
-    call-comes (set-tries credential tries) typed plan =
-        keyed-comes (isCredential credential) counterTag credential (λ (held : OptRaw) (room : Bool). setDecision held room credential tries)
-        (λ t. counterRecord credential (resetOf (startOf (heldOf counterTag credential t) tries) tries)) (set-sound credential tries (typed .0) (typed .1)) plan
-    call-comes (advance-lamport latest) typed plan =
-        keyed-comes true valueTag lamport (λ (held : OptRaw) (room : Bool). advanceDecision held room latest)
-        (λ t. valueRecord lamport (seenOf (heldOf valueTag lamport t) latest + 1)) (advance-sound latest typed) plan
+    call-comes =
+        by-kind (λ (x : Shape). x .typed → (plan : Plan) → Comes (Unmatched (x .appends image log plan) (x .writes t)) (x .decision t) (x .outcome image log plan))
+        (λ typed known tag id d r m k plan. keyed-comes known tag id d r (m .sound k) plan) anchor-comes (λ seeds count typed plan. format-comes seeds count plan)
 
   -- ---- a credential
   by-decision : (P : List Raw → Type 0) (room : Bool) (r : Raw) (Q : Type 0) (d : Decision) → Decided room r Q d → P t → P (joined r t) → P (recordsIn (decidedTable d log))

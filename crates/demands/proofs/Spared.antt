@@ -10,7 +10,7 @@ use Rattle.basics.specs.Answers.{isDone}
 use Rattle.basics.specs.declared.Answer.the-variants.{WriteError, NotFormatted}
 use Rattle.basics.proofs.Choice.{by-test}
 use Rattle.ids.specs.declared.Anchor.{Anchor}
-use Rattle.ids.specs.Ids.{counterTag, valueTag, anchorTag, lamport, isCredential, isValue}
+use Rattle.ids.specs.Ids.{anchorTag}
 use Rattle.codec.specs.declared.Raw.{Raw}
 use Rattle.codec.specs.declared.OptRaw.{OptRaw}
 use Rattle.flash.specs.declared.Plan.{Plan}
@@ -25,21 +25,21 @@ use Rattle.fitting.specs.Fitting.{logFits}
 use Rattle.fitting.proofs.Laws.{fits-active}
 use Rattle.writing.specs.Commits.{Wrote}
 use Rattle.deciding.specs.declared.Decision.{Decision}
-use Rattle.deciding.specs.Decisions.{whenActive, putDecision, valueDecision, anchorDecision}
+use Rattle.deciding.specs.Decisions.{whenActive, anchorDecision}
 use Rattle.reading.specs.Entering.{entryAnswer, heldOf, roomFor}
 use Rattle.reading.proofs.Entering.{let-in-by}
 use Rattle.seeding.specs.declared.Seed.{Seed}
 use Rattle.seeding.specs.Seeds.{seedsKnown, seedTable}
 use Rattle.performing.specs.Outcomes.{Outcome, flashOf, refused, entered}
 use Rattle.performing.specs.Performing.{wroteOutcome, appended, performed, decided, formatted}
-use Rattle.log.specs.Calls.{isFirst, putOf, putValueOf, anchorCall, anchoredFirst, anchored, putAnchorOf, formatOn, formatOf}
-use Rattle.tries.specs.Tries.{spendDecision, spendOf, setDecision, setOf, advanceDecision, advanceOf}
+use Rattle.log.specs.Calls.{isFirst, anchorCall, anchoredFirst, anchored, putAnchorOf, formatOn, formatOf}
 use Rattle.demands.specs.Healthy.{unlimited}
-use Rattle.demands.specs.Calls.{Call, put, put-value, put-anchor, format, spend, set-tries, advance-lamport, outcomeOf}
+use Rattle.demands.specs.Calls.{Call, outcomeOf}
 use Rattle.demands.specs.Wear.{Alike}
 use Rattle.demands.proofs.Sparing.{freed, Uncut, chosen, commit-freed, append-uncut, append-freed}
 use Rattle.demands.proofs.Courses.{commit-fresh}
 use Rattle.demands.proofs.Wearing.{call-wears}
+use Rattle.demands.proofs.Shapes.{Shape, by-kind}
 
 abbrev freedOutcome : Outcome → Outcome
 freedOutcome o = record { answer = o .answer; value = o .value; log = o .log; flash = freed (o .flash) }
@@ -157,16 +157,15 @@ module _ (image : List ℕ) (log : Log) (plan : Plan) where
       go some Failed = λ _. refl
       go some (Active s seq head) = λ _. refl
 
-  call-freed : (c : Call) → outcomeOf c image log plan .flash .cut ≡ false → outcomeOf c image log (unlimited plan) ≡ freedOutcome (outcomeOf c image log plan)
-  unfolding putOf putValueOf putAnchorOf spendOf setOf advanceOf
-  call-freed (put credential new) = keyed-freed (isCredential credential) counterTag credential (λ (held : OptRaw) (room : Bool). putDecision held room credential new)
-  call-freed (put-value id new) = keyed-freed (isValue id) valueTag id (λ (held : OptRaw) (room : Bool). valueDecision held room id new)
-  call-freed (put-anchor new) =
+  anchor-freed : (new : Anchor) → putAnchorOf image log plan new .flash .cut ≡ false → putAnchorOf image log (unlimited plan) new ≡ freedOutcome (putAnchorOf image log plan new)
+  unfolding putAnchorOf
+  anchor-freed new =
       entered-freed true (λ (n : ℕ) (l : Log) (f : Flash). anchored (l .state) new n l f) (λ some fits. anchored-freed new n log f (omega arith) (log .state) (fits-inside n log fits))
-  call-freed (format seeds count) = format-freed seeds count
-  call-freed (spend credential current) = keyed-freed (isCredential credential) counterTag credential (λ (held : OptRaw) (room : Bool). spendDecision held room credential current)
-  call-freed (set-tries credential tries) = keyed-freed (isCredential credential) counterTag credential (λ (held : OptRaw) (room : Bool). setDecision held room credential tries)
-  call-freed (advance-lamport latest) = keyed-freed true valueTag lamport (λ (held : OptRaw) (room : Bool). advanceDecision held room latest)
+
+  call-freed : (c : Call) → outcomeOf c image log plan .flash .cut ≡ false → outcomeOf c image log (unlimited plan) ≡ freedOutcome (outcomeOf c image log plan)
+  call-freed =
+      by-kind (λ (x : Shape). x .outcome image log plan .flash .cut ≡ false → x .outcome image log (unlimited plan) ≡ freedOutcome (x .outcome image log plan))
+      (λ typed known tag id d r k. keyed-freed known tag id d) anchor-freed format-freed
 
   pub units-to-spare : (c : Call) → 73536 ≤ plan .units → Alike (outcomeOf c image log (unlimited plan)) (outcomeOf c image log plan)
   units-to-spare c enough =
