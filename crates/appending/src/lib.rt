@@ -7,7 +7,6 @@ use records::State;
 use writing::Tried;
 use writing::Used;
 use writing::Wrote;
-ghost use mathlib.Core.Path.{_≡_};
 ghost use mathlib.Core.Bool.{Bool};
 ghost use Prim.Native.Nat.{_+_, _*_, _≤_, _<_};
 ghost use lib.ListN.{length, take};

@@ -5,7 +5,6 @@ use Prim.Native.Nat.{ℕ}
 use lib.Dec.{eqb, ltb}
 use Rattle.basics.specs.Choice.{pick}
 use Rattle.basics.specs.Answers.{isDone}
-use Rattle.basics.specs.declared.Answer.{Answer}
 use Rattle.basics.specs.declared.Answer.the-variants.{Done, WriteError, KeystoreFull, IntegrityFailure}
 use Rattle.basics.proofs.Choice.{by-test}
 use Rattle.ids.specs.declared.CounterState.{CounterState}

@@ -15,7 +15,6 @@ use Rattle.records.specs.declared.State.{State}
 use Rattle.records.specs.declared.State.the-variants.{Unformatted, Failed, Active}
 use Rattle.records.specs.declared.Log.{Log}
 use Rattle.records.specs.Logs.{logOf}
-use Rattle.scan.specs.declared.Opened.{Opened}
 use Rattle.scan.specs.Opening.{openOf}
 use Rattle.fitting.specs.Fitting.{logFits}
 use Rattle.reading.specs.declared.Counter.{Counter}

@@ -1,11 +1,10 @@
 -- The first anchor: what its own format leaves is an empty log that fits, and the anchor is decided on that.
 use mathlib.Core.Path.{_≡_, refl, sym, ap, _∙_}
-use mathlib.Core.Bool.{Bool, true, false, _&&_, false≢true}
+use mathlib.Core.Bool.{Bool, true, false, false≢true}
 use mathlib.Core.Logic.{inl}
 use mathlib.Core.List.{List, []}
-use Prim.Native.Nat.{ℕ, _+_, _*_, _≤_, _<_}
+use Prim.Native.Nat.{ℕ, _≤_, _<_}
 use native.Mathlib.Omega.{arith}
-use lib.Dec.{eqb}
 use lib.ListN.{length}
 use Rattle.basics.specs.Choice.{pick}
 use Rattle.basics.specs.Answers.{isDone}
@@ -15,7 +14,6 @@ use Rattle.basics.proofs.Choice as both
 use Rattle.ids.specs.declared.Anchor.{Anchor}
 use Rattle.ids.specs.Ids.{anchorTag}
 use Rattle.codec.specs.declared.Raw.{Raw}
-use Rattle.codec.specs.declared.OptRaw.{OptRaw}
 use Rattle.codec.specs.Slots.{none}
 use Rattle.flash.specs.declared.Plan.{Plan}
 use Rattle.flash.specs.Image.{sectorsIn}
@@ -23,13 +21,13 @@ use Rattle.flash.specs.Run.{Flash}
 use Rattle.records.specs.declared.State.{State}
 use Rattle.records.specs.declared.State.the-variants.{Unformatted, Failed, Active}
 use Rattle.records.specs.declared.Log.{Log}
-use Rattle.records.specs.Table.{limit, holds, placeOf}
+use Rattle.records.specs.Table.{holds}
 use Rattle.records.specs.Logs.{logOf, recordsOf}
 use Rattle.fitting.specs.Fitting.{logFits, keysFit}
-use Rattle.fitting.proofs.Laws.{Placed, placed-state, log-fits}
+use Rattle.fitting.proofs.Laws.{placed-state, log-fits}
 use Rattle.writing.specs.Commits.{Wrote, commitFirst}
 use Rattle.writing.proofs.Committed.{Committed, committed}
-use Rattle.writing.proofs.Costs.{Within, commit-within}
+use Rattle.writing.proofs.Costs.{commit-within}
 use Rattle.deciding.specs.Decisions.{whenActive, anchorDecision}
 use Rattle.reading.specs.declared.Entry.{Entry}
 use Rattle.reading.specs.Entering.{heldOf, roomFor, entryOf}

@@ -1,5 +1,4 @@
 // One pass over the slots of the sector that won: its records, and where the next one goes.
-use codec::Raw;
 use records::LIMIT;
 use records::State;
 use scan::RegionScan;

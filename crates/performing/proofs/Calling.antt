@@ -2,7 +2,7 @@
 use mathlib.Core.Path.{_≡_, refl, sym, ap, ap₂, subst, _∙_}
 use mathlib.Core.Bool.{Bool, true, false}
 use mathlib.Core.List.{List}
-use Prim.Native.Nat.{ℕ, _≤_, _<_}
+use Prim.Native.Nat.{ℕ, _≤_}
 use native.Mathlib.Omega.{arith}
 use lib.ListN.{length}
 use borrow.Author.Tests.{ltb-true}
@@ -15,7 +15,6 @@ use Rattle.flash.proofs.Geometry.{sectors-fit}
 use Rattle.records.specs.declared.Log.{Log}
 use Rattle.records.specs.Table.{limit, placeOf}
 use Rattle.records.specs.Logs.{recordsOf}
-use Rattle.fitting.specs.Fitting.{logFits}
 use Rattle.fitting.proofs.Owned.{WholeLog}
 use Rattle.fitting.proofs.Laws.{fits-clauses, records-length}
 use Rattle.writing.specs.declared.Used.{Used}
@@ -24,7 +23,7 @@ use Rattle.deciding.specs.declared.Decision.{Decision}
 use Rattle.deciding.specs.Decisions.{whenActive}
 use Rattle.deciding.proofs.Keyed.{Keyed}
 use Rattle.reading.specs.declared.Entry.{Entry}
-use Rattle.reading.specs.Entering.{entryAnswer, roomFor, entryOf}
+use Rattle.reading.specs.Entering.{entryAnswer, entryOf}
 use Rattle.reading.proofs.Entering.{let-in-by, entry-answer, entry-in, entry-found, room-at}
 use Rattle.performing.specs.declared.Done.{Done}
 use Rattle.performing.specs.Outcomes.{Outcome, Meets, flashOf, refused, entered}

@@ -8,7 +8,7 @@ use Rattle.basics.specs.Choice.{pick}
 use Rattle.basics.specs.Answers.{isDone}
 use Rattle.codec.specs.declared.Raw.{Raw}
 use Rattle.records.specs.declared.Log.{Log}
-use Rattle.records.specs.Logs.{places, logOf}
+use Rattle.records.specs.Logs.{places}
 use Rattle.writing.specs.declared.Wrote as code
 use Rattle.writing.specs.Commits.{Wrote}
 use Rattle.writing.specs.Shown.{usedOf}

@@ -19,7 +19,7 @@ use Rattle.deciding.specs.declared.Decision.{Decision}
 use Rattle.deciding.specs.Decisions.{whenActive}
 use Rattle.reading.specs.declared.Entry.{Entry}
 use Rattle.performing.specs.declared.Done.{Done}
-use Rattle.performing.specs.Outcomes.{Outcome, doneOf, Meets, refused}
+use Rattle.performing.specs.Outcomes.{Outcome, Meets, refused}
 use Rattle.performing.specs.Performing.{performed}
 
 -- an answer and an image that show this outcome, whatever was cut before

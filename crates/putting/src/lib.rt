@@ -3,7 +3,6 @@ use flash::Plan;
 use ids::CounterState;
 use performing::Done;
 use records::Log;
-ghost use mathlib.Core.Path.{_≡_};
 ghost use Rattle.performing.specs.Outcomes.{Meets};
 ghost use Rattle.log.specs.Calls.{putOf, putValueOf};
 

@@ -1,5 +1,5 @@
 -- "Order: 1, 2, 3, then the Rust's order": what every call tests first, and what it finds of its key.
-use mathlib.Core.Bool.{Bool, true, false, _||_}
+use mathlib.Core.Bool.{Bool, false, _||_}
 use mathlib.Core.List.{List}
 use Prim.Native.Nat.{ℕ}
 use lib.Dec.{eqb, ltb}

@@ -4,7 +4,6 @@ use codec::Raw;
 use records::LIMIT;
 use writing::Step;
 use writing::Used;
-ghost use mathlib.Core.Path.{_≡_};
 ghost use mathlib.Core.Bool.{Bool};
 ghost use Prim.Native.Nat.{_+_, _*_, _≤_, _<_};
 ghost use lib.ListN.{length, take};

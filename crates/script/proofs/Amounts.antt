@@ -1,18 +1,16 @@
 -- Laws of reading a number digit by digit, from the first to the last.
-use mathlib.Core.Path.{_≡_, refl, sym, ap, _∙_}
-use mathlib.Core.Bool.{Bool, true, false, _&&_}
+use mathlib.Core.Path.{_≡_, _∙_}
+use mathlib.Core.Bool.{true, false, _&&_}
 use mathlib.Core.List.{List, [], _∷_}
-use Prim.Native.Nat.{ℕ, suc, _+_, _-_, _*_, _≤_, _<_}
+use Prim.Native.Nat.{ℕ, _+_, _-_, _*_, _≤_, _<_}
 use native.Mathlib.Numerals.{add-one}
 use native.Mathlib.Omega.{arith}
-use lib.Dec.{eqb, leb}
+use lib.Dec.{leb}
 use lib.ListN.{length, getD, drop, drop-of-length-le}
 use lib.Seq.{drop-cons}
-use borrow.Author.Tests.{le-leb, lt-leb, ne-eqb, leb-true}
-use Rattle.basics.specs.Choice.{pick}
+use borrow.Author.Tests.{le-leb, ne-eqb, leb-true}
 use Rattle.basics.proofs.Choice.{both, first, second, fails}
 use Rattle.text.specs.Text.{valueFrom}
-use Rattle.script.specs.declared.Value.{Value}
 use Rattle.script.specs.declared.Value.the-variants as value
 use Rattle.script.specs.Decimals.{isDigit, allDigits, amountFrom, amountOf}
 

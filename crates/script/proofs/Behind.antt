@@ -11,11 +11,9 @@ use Rattle.basics.specs.Choice.{pick}
 use Rattle.basics.specs.Lists.{same}
 use Rattle.basics.proofs.Choice.{second}
 use Rattle.text.specs.Text.{valueFrom}
-use Rattle.script.specs.declared.Past.{Past}
 use Rattle.script.specs.declared.Past.the-variants as past
 use Rattle.script.specs.declared.Value.{Value}
 use Rattle.script.specs.declared.Value.the-variants as value
-use Rattle.script.specs.declared.Taken.{Taken}
 use Rattle.script.specs.declared.Taken.the-variants as taken
 use Rattle.script.specs.Words.{space, spaceAt, wordAt, endOf, skipOf}
 use Rattle.script.specs.Decimals.{allDigits, amountFrom, amountOf, takenAt, numberAt}

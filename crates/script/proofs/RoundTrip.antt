@@ -1,15 +1,14 @@
 -- What is written reads back: a number in decimal, and a byte in hex.
-use mathlib.Core.Path.{_≡_, refl, sym, ap, ap₂, _∙_}
-use mathlib.Core.Bool.{Bool, true, false, _&&_}
+use mathlib.Core.Path.{_≡_, refl, ap, _∙_}
+use mathlib.Core.Bool.{Bool, true, false}
 use mathlib.Core.List.{List, [], _∷_}
 use Prim.Native.Nat.{ℕ, zero, suc, _+_, _*_, _/_, _%_, _^_, _≤_, _<_}
 use native.Mathlib.Omega.{arith}
 use lib.Dec.{ltb}
 use lib.ListN.{length}
-use borrow.Author.Tests.{le-leb, ltb-true, ltb-false, lt-ltb, ne-eqb}
-use Rattle.basics.specs.Choice.{pick}
+use borrow.Author.Tests.{le-leb, ltb-true, ltb-false, lt-ltb}
 use Rattle.basics.proofs.Choice.{both, by-test}
-use Rattle.text.specs.Text.{digits, decimal, valueOf, hexDigit, hexOf}
+use Rattle.text.specs.Text.{digits, decimal, hexDigit, hexOf}
 use Rattle.text.proofs.Decimal.{decimal-read}
 use Rattle.text.proofs.Hex.{digit-low, digit-high}
 use Rattle.script.specs.declared.Value.the-variants as value

@@ -1,5 +1,5 @@
 -- "Numbers are decimal", and "one that doesn't fit its place is a line that cannot be read". Zeros in front are taken, a sign is not.
-use mathlib.Core.Bool.{Bool, true, not, _&&_}
+use mathlib.Core.Bool.{Bool, true, _&&_}
 use mathlib.Core.List.{List, [], _∷_}
 use Prim.Native.Nat.{ℕ, _+_}
 use lib.Dec.{eqb, leb}

@@ -7,7 +7,6 @@ use records::Log;
 use records::State;
 use seeding::SEEDS;
 use seeding::Seed;
-ghost use mathlib.Core.Path.{_≡_};
 ghost use Rattle.performing.specs.Outcomes.{Meets};
 ghost use Rattle.log.specs.Calls.{formatOf};
 

@@ -1,5 +1,4 @@
 // Text into a lent buffer: a byte, and bytes; figures has numbers. Each answers the place one past what it put.
-ghost use mathlib.Core.Path.{_≡_};
 ghost use mathlib.Core.List.{_∷_, []};
 ghost use Prim.Native.Nat.{_+_, _≤_, _<_};
 ghost use lib.ListN.{length};

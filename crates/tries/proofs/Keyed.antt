@@ -1,5 +1,5 @@
 -- What spend, set and advance_lamport decide writes the record of their own key only, and only where there is room for it.
-use mathlib.Core.Path.{_≡_, refl}
+use mathlib.Core.Path.{refl}
 use mathlib.Core.Bool.{Bool, _&&_}
 use Prim.Native.Nat.{ℕ, _+_}
 use lib.Dec.{eqb}

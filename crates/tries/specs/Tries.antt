@@ -1,11 +1,10 @@
 -- "Tries": what the applets ask of a log.
-use mathlib.Core.Bool.{Bool, true, false, _&&_}
+use mathlib.Core.Bool.{Bool, true, _&&_}
 use mathlib.Core.List.{List}
 use Prim.Native.Nat.{ℕ, _+_, max}
 use lib.Dec.{eqb, leb}
 use Rattle.basics.specs.Choice.{pick}
 use Rattle.basics.specs.Answers.{numberOf}
-use Rattle.basics.specs.declared.Answer.{Answer}
 use Rattle.basics.specs.declared.Answer.the-variants.{WriteError}
 use Rattle.ids.specs.declared.CounterState.{CounterState}
 use Rattle.ids.specs.declared.Next.{Next}
@@ -21,7 +20,7 @@ use Rattle.deciding.specs.Decisions.{refuse, give, write}
 use Rattle.reading.specs.declared.Counter.{Counter}
 use Rattle.reading.specs.declared.Counter.the-variants as counter
 use Rattle.reading.specs.declared.Told.{Told}
-use Rattle.reading.specs.Reads.{getOf, told, refusedTold, lamportOf}
+use Rattle.reading.specs.Reads.{getOf, told, refusedTold}
 use Rattle.performing.specs.Outcomes.{Outcome, entered}
 use Rattle.performing.specs.Performing.{decided}
 use Rattle.tries.specs.declared.Left.{Left}

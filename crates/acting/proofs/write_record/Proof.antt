@@ -1,13 +1,12 @@
 -- `acting::write_record` meets its contract.
 use mathlib.Core.Path.{_≡_, sym, ap, ap₂, subst, _∙_}
-use mathlib.Core.Bool.{Bool}
 use mathlib.Core.List.{List}
-use Prim.Native.Nat.{ℕ, _≤_}
+use Prim.Native.Nat.{ℕ}
 use native.Mathlib.Omega.{arith}
 use lib.ListN.{length, set, take}
 use Rattle.codec.specs.declared.Raw.{Raw}
 use Rattle.records.specs.declared.Log.{Log}
-use Rattle.records.specs.Table.{limit, placeOf, joined, newCount}
+use Rattle.records.specs.Table.{placeOf, joined, newCount}
 use Rattle.records.specs.Logs.{places, recordsOf}
 use Rattle.records.proofs.Places.{places-take}
 use Rattle.records.proofs.Storing.{stored, new-most}

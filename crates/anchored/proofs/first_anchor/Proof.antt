@@ -16,7 +16,6 @@ use Rattle.deciding.specs.Decisions.{whenActive, anchorDecision}
 use Rattle.performing.specs.declared.Done.{Done}
 use Rattle.performing.specs.Outcomes.{Outcome, Meets}
 use Rattle.performing.specs.Performing.{performed, formatted}
-use Rattle.log.specs.Calls.{anchoredFirst}
 use Rattle.log.proofs.Anchoring.{format-cheap, format-fits, format-empty, first-stopped, first-decided}
 use borrow.Author.Needs.{needs}
 use Rattle.anchored.proofs.first_anchor.Statement.{statement}

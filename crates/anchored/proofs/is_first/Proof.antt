@@ -1,8 +1,7 @@
 -- `anchored::is_first` meets its contract.
 use mathlib.Core.Path.{_≡_, sym, ap, _∙_}
-use mathlib.Core.Bool.{Bool, _&&_, and-false}
+use mathlib.Core.Bool.{Bool, _&&_}
 use borrow.Author.Tests.{eq-eqb, ne-eqb, not-true, not-false}
-use Rattle.basics.specs.Answers.{isDone}
 use Rattle.records.specs.declared.State.{State}
 use Rattle.log.specs.Calls.{isFirst}
 use Rattle.log.specs.Steps.{opensLog}

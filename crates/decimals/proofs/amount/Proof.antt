@@ -1,5 +1,5 @@
 -- `decimals::amount` meets its contract. The loop's invariant: what is left, behind the value so far, gives what the whole word gives.
-use mathlib.Core.Path.{_≡_, refl, sym, _∙_}
+use mathlib.Core.Path.{_≡_, sym, _∙_}
 use Prim.Native.Nat.{_-_, _≤_}
 use native.Mathlib.Omega.{arith}
 use lib.ListN.{length, getD, drop}

@@ -1,12 +1,9 @@
 -- `decimals::number` meets its contract.
 use mathlib.Core.Path.{_≡_, sym, ap, ap₂, _∙_}
-use mathlib.Core.List.{List}
-use Prim.Native.Nat.{ℕ, _+_, _≤_}
+use Prim.Native.Nat.{_+_}
 use native.Mathlib.Omega.{arith}
 use borrow.Author.Needs.{needs}
 use borrow.Author.Tests.{eq-eqb, ne-eqb}
-use Rattle.script.specs.declared.Value.{Value}
-use Rattle.script.specs.Words.{wordAt}
 use Rattle.script.specs.Decimals.{amountOf, takenAt, numberAt}
 use Rattle.script.proofs.Ends.{end-within, word-part, no-space}
 use Rattle.script.proofs.Behind.{number-not, number-here}

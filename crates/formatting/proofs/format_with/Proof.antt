@@ -1,8 +1,7 @@
 -- `formatting::format_with` meets its contract.
-use mathlib.Core.Path.{_≡_, sym, ap, _∙_}
+use mathlib.Core.Path.{sym, ap, _∙_}
 use mathlib.Core.List.{[]}
 use lib.ListN.{length, take}
-use Rattle.codec.specs.declared.Raw.{Raw}
 use Rattle.records.specs.declared.Log.{Log}
 use Rattle.records.specs.Logs.{places}
 use Rattle.fitting.proofs.Owned.{whole-log}

@@ -1,13 +1,13 @@
 -- `hex::hex_bytes` meets its contract. The loop's invariant: all stands but the bytes from `from` on that there is room for.
-use mathlib.Core.Path.{_≡_, refl, sym, ap, subst, _∙_}
-use mathlib.Core.List.{List, [], _∷_, _++_}
-use Prim.Native.Nat.{ℕ, _+_, _-_, _≤_, _<_}
+use mathlib.Core.Path.{_≡_, sym, subst, _∙_}
+use mathlib.Core.List.{List}
+use Prim.Native.Nat.{ℕ, _+_, _-_, _≤_}
 use native.Mathlib.Omega.{arith}
 use borrow.Author.Needs.{needs}
-use lib.ListN.{length, take, drop, set, length-take}
+use lib.ListN.{length}
 use Rattle.text.specs.Text.{Puts}
 use Rattle.text.proofs.Putting.{Begun, begun, next, ended, put-none, put-one, same-room}
-use Rattle.script.specs.Hex.{bytesOf, bytesIn}
+use Rattle.script.specs.Hex.{bytesIn}
 use Rattle.script.proofs.Pairs.{byte-within, fill-none, fill-more, fill-full, fill-room}
 use Rattle.hex.proofs.hex_bytes.Statement.{statement}
 use Rattle.hex.proofs.hex_bytes.Tie as tie

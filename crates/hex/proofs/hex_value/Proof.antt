@@ -1,5 +1,5 @@
 -- `hex::hex_value` meets its contract.
-use mathlib.Core.Path.{sym, _∙_}
+use mathlib.Core.Path.{sym}
 use native.Mathlib.Omega.{arith}
 use borrow.Author.Needs.{needs}
 use Rattle.script.proofs.Pairs.{value-digit, value-letter, value-below, value-between, value-above}

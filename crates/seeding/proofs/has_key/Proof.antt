@@ -1,6 +1,5 @@
 -- `seeding::has_key` meets its contract.
 use borrow.Author.Tests.{eq-eqb, ne-eqb}
-use borrow.Author.Needs.{needs}
 use Rattle.seeding.proofs.has_key.Statement.{statement}
 use Rattle.seeding.proofs.has_key.Tie as tie
 

@@ -1,12 +1,11 @@
 -- `seeding::place` meets its contract. The loop's invariant: the place found from here on is the place in all.
-use mathlib.Core.Path.{_≡_, refl, sym, ap, _∙_}
+use mathlib.Core.Path.{_≡_, sym, ap, _∙_}
 use mathlib.Core.Bool.{Bool}
 use Prim.Native.Nat.{_+_, _-_, _≤_}
 use native.Mathlib.Nat.{zero-add}
 use native.Mathlib.Omega.{arith}
 use lib.ListN.{length, getD, drop, take}
 use lib.Seq.{length-take-le, getD-take}
-use Rattle.codec.specs.declared.Raw.{Raw}
 use Rattle.records.specs.Table.{hasKey, placeOf}
 use Rattle.records.proofs.Joining.{nowhere}
 use Rattle.seeding.proofs.Seeding.{place-end, place-here, place-past}

@@ -13,7 +13,6 @@ use Rattle.records.proofs.Finding.{place-most}
 use Rattle.records.proofs.Places.{places-take}
 use Rattle.records.proofs.Storing.{stored, count-most}
 use Rattle.seeding.specs.declared.Seed.{Seed}
-use Rattle.seeding.specs.declared.Seeded.{Seeded}
 use Rattle.seeding.specs.Seeds.{seeded, seededOf}
 use Rattle.seeding.proofs.Seeding.{noSeed, seeded-end, seeded-turn}
 use Rattle.seeding.proofs.seed_table.Statement.{statement}

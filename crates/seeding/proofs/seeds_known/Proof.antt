@@ -3,7 +3,7 @@ use mathlib.Core.Path.{_≡_, refl, sym, ap, _∙_}
 use mathlib.Core.Bool.{Bool, _&&_}
 use Prim.Native.Nat.{_+_, _-_, _≤_}
 use native.Mathlib.Omega.{arith}
-use lib.ListN.{length, getD, drop, take}
+use lib.ListN.{length, drop, take}
 use lib.Seq.{length-take-le, getD-take}
 use borrow.Author.Tests.{lt-leb, le-leb, not-true, not-false}
 use Rattle.ids.specs.Ids.{isCredential}

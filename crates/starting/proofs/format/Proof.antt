@@ -23,7 +23,7 @@ use Rattle.reading.specs.Entering.{entryOf}
 use Rattle.reading.proofs.Entering.{let-in-by, entry-in}
 use Rattle.performing.specs.Outcomes.{Outcome, Meets, flashOf}
 use Rattle.performing.specs.Performing.{formatted}
-use Rattle.performing.specs.Steps.{answeredOf, Filled}
+use Rattle.performing.specs.Steps.{answeredOf}
 use Rattle.performing.proofs.Calling.{entered-refused, entered-in, in-room}
 use Rattle.log.specs.Calls.{formatOn, formatOf}
 use Rattle.log.proofs.Formatting.{known-few, table-most, filled}

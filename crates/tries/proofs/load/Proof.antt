@@ -1,11 +1,9 @@
 -- `tries::load` meets its contract.
 use mathlib.Core.Path.{_≡_, sym, ap, _∙_}
 use mathlib.Core.Bool.{Bool}
-use Prim.Native.Nat.{ℕ}
 use lib.Dec.{leb}
 use borrow.Author.Tests.{le-leb, lt-leb}
 use Rattle.basics.specs.Choice.{pick}
-use Rattle.basics.specs.Answers.{numberOf}
 use Rattle.reading.specs.Reads.{told, refusedTold}
 use Rattle.tries.specs.declared.Left.{Left}
 use Rattle.tries.specs.Tries.{loadBy, loadOf}
