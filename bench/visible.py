@@ -7,7 +7,7 @@ For another machine than x86_64 the module is made that machine's, and what else
 import re
 import sys
 
-NAMES = {'"opening::open"': "spoolewe_open", '"spending::spend"': "spoolewe_spend", '"spending::set"': "spoolewe_set"}
+NAMES = {'"scan::opening::open"': "spoolewe_open", '"tries::spends::spend"': "spoolewe_spend", '"tries::spends::set"': "spoolewe_set"}
 
 
 def visible(text):

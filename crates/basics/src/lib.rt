@@ -1,5 +1,15 @@
-// The words that every crate shares: the numbers that a call answers with.
-// Numbers as bytes, lowest first, are defined here too; they are worked out in little and numbers.
+// Choices, lists, numbers as bytes, and the paper's answers 0 to 9.
+// Here stands what a call answers with; what is defined in specs/ is shared by every crate.
+
+mod le_bytes; // A number as two, four or eight bytes, lowest first
+mod le_numbers; // The number that bytes spell, lowest first
+
+pub use le_bytes::bytes2;
+pub use le_bytes::bytes4;
+pub use le_bytes::bytes8;
+pub use le_numbers::joined;
+pub use le_numbers::number2;
+pub use le_numbers::number4;
 ghost use mathlib.Core.Path.{_≡_};
 ghost use Rattle.basics.specs.Answers.{numberOf, isDone};
 

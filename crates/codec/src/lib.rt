@@ -1,5 +1,18 @@
+// The sixteen bytes of a slot, as a header or a record, with their checksum.
 // The slots of the log: what a record and a header are, the record of zeros, and the test for erased bytes.
-// How slots are written and read stands in sealing, headers and slots.
+
+mod checksum; // The checksum of a slot
+mod seal; // A slot sealed
+mod headers; // A sector's header as a slot, both ways
+mod slots; // A record as a slot, both ways, under the checksum of its sector
+
+pub use checksum::under;
+pub use headers::decode_header;
+pub use headers::encode_header;
+pub use slots::decode;
+pub use slots::decode_from;
+pub use slots::encode;
+pub use slots::encode_from;
 ghost use mathlib.Core.Path.{_≡_};
 ghost use Rattle.basics.specs.Lists.{allAre};
 ghost use Rattle.codec.specs.Slots.{noRaw};

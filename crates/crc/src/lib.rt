@@ -49,7 +49,7 @@ pub fn update(state: u32, bytes: &[u8]) -> u32
 pub fn update_word(state: u32, x: u32) -> u32
     ensures { λ r. ⌜ r ≡ feed state (leBytes 4 x) ⌝ }
 {
-    let b = little::bytes4(x);
+    let b = basics::bytes4(x);
     update(state, &b)
 }
 

@@ -32,9 +32,9 @@ use Rattle.records.specs.Table.{joined}
 use Rattle.scan.specs.Choosing.{headerAt}
 use Rattle.scan.specs.Reading.{these, withSlot as reading, readFrom}
 use Rattle.scan.proofs.Viewing.{read-same}
-use Rattle.writing.specs.Commits.{after, commitAfter}
-use Rattle.writing.specs.Appends.{Tried, triesFrom, appendOf}
-use Rattle.writing.proofs.Stepping.{after-within}
+use Rattle.sectors.specs.Commits.{after, commitAfter}
+use Rattle.sectors.specs.Appends.{Tried, triesFrom, appendOf}
+use Rattle.sectors.proofs.Stepping.{after-within}
 use Rattle.demands.specs.Chance.{cutAt, ChanceMatch, Unmatched}
 use Rattle.demands.specs.Shown.{Seen, active, holding}
 use Rattle.demands.proofs.Torn.{slot-sixteen, slot-bytes, cut-length, cut-bytes, cut-record}

@@ -15,11 +15,11 @@ use Rattle.records.specs.declared.State.the-variants.{Unformatted, Failed, Acti
 use Rattle.records.specs.declared.Log.{Log}
 use Rattle.records.specs.Table.{joined}
 use Rattle.records.specs.Logs.{logOf, recordsOf}
-use Rattle.writing.specs.Commits.{Wrote, commitFirst}
-use Rattle.writing.specs.Appends.{appendOf}
-use Rattle.deciding.specs.declared.Decision.{Decision}
-use Rattle.performing.specs.Outcomes.{Outcome, flashOf}
-use Rattle.performing.specs.Performing.{wroteOutcome, appended, performed, formatted}
+use Rattle.sectors.specs.Commits.{Wrote, commitFirst}
+use Rattle.sectors.specs.Appends.{appendOf}
+use Rattle.decisions.specs.declared.Decision.{Decision}
+use Rattle.decisions.specs.Outcomes.{Outcome, flashOf}
+use Rattle.decisions.specs.Performing.{wroteOutcome, appended, performed, formatted}
 use Rattle.demands.specs.Healthy.{Healthy, healthy}
 use Rattle.demands.specs.Shown.{Seen, Table, holding, tableIn, tableOf}
 use Rattle.demands.proofs.Tables.{Proper, Writable}

@@ -26,10 +26,10 @@ use Rattle.scan.specs.Choosing.{headerAt}
 use Rattle.scan.specs.Reading.{these}
 use Rattle.scan.proofs.Winning.{valid-invalid}
 use Rattle.scan.proofs.Viewing.{read-same}
-use Rattle.fitting.specs.Fitting.{seqMax}
-use Rattle.writing.specs.Sectors.{writeSector}
-use Rattle.writing.specs.Commits.{Wrote, after, commitFrom}
-use Rattle.writing.proofs.Stepping.{sector-unerased, after-within}
+use Rattle.records.specs.Fitting.{seqMax}
+use Rattle.sectors.specs.Sectors.{writeSector}
+use Rattle.sectors.specs.Commits.{Wrote, after, commitFrom}
+use Rattle.sectors.proofs.Stepping.{sector-unerased, after-within}
 use Rattle.demands.specs.Shown.{Seen, seenBy, Table, holding, tableIn}
 use Rattle.demands.proofs.Tables.{Proper}
 use Rattle.demands.proofs.Invariant.{Found, Agrees}

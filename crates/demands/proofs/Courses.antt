@@ -26,20 +26,20 @@ use Rattle.records.specs.declared.State.the-variants.{Unformatted, Failed, Acti
 use Rattle.records.specs.declared.Log.{Log}
 use Rattle.records.specs.Table.{limit, joined, hasRoom}
 use Rattle.records.specs.Logs.{logOf, recordsOf}
-use Rattle.fitting.specs.Fitting.{logFits}
-use Rattle.writing.specs.Sectors.{writeSector}
-use Rattle.writing.specs.Commits.{Wrote, after, commitFrom, commitFirst}
-use Rattle.writing.specs.Appends.{appendOf}
-use Rattle.writing.proofs.Stepping.{after-within}
-use Rattle.deciding.specs.declared.Decision.{Decision}
-use Rattle.deciding.specs.Decisions.{whenActive, anchorDecision}
-use Rattle.reading.specs.Entering.{entryAnswer, heldOf, roomFor}
-use Rattle.reading.proofs.Entering.{let-in-by}
-use Rattle.seeding.specs.declared.Seed.{Seed}
-use Rattle.seeding.specs.Seeds.{allKnown, seedsKnown, seedTable}
-use Rattle.seeding.proofs.Seeding.{seeded-most}
-use Rattle.performing.specs.Outcomes.{Outcome, flashOf, refused, entered}
-use Rattle.performing.specs.Performing.{wroteOutcome, appended, performed, decided}
+use Rattle.records.specs.Fitting.{logFits}
+use Rattle.sectors.specs.Sectors.{writeSector}
+use Rattle.sectors.specs.Commits.{Wrote, after, commitFrom, commitFirst}
+use Rattle.sectors.specs.Appends.{appendOf}
+use Rattle.sectors.proofs.Stepping.{after-within}
+use Rattle.decisions.specs.declared.Decision.{Decision}
+use Rattle.decisions.specs.Decisions.{whenActive, anchorDecision}
+use Rattle.reads.specs.Entering.{entryAnswer, heldOf, roomFor}
+use Rattle.reads.proofs.Entering.{let-in-by}
+use Rattle.decisions.specs.declared.seeds.Seed.{Seed}
+use Rattle.decisions.specs.Seeds.{allKnown, seedsKnown, seedTable}
+use Rattle.decisions.proofs.seeds.Seeding.{seeded-most}
+use Rattle.decisions.specs.Outcomes.{Outcome, flashOf, refused, entered}
+use Rattle.decisions.specs.Performing.{wroteOutcome, appended, performed, decided}
 use Rattle.log.specs.Calls.{isFirst, anchorCall, anchoredFirst, anchored, putAnchorOf, formatOn, formatOf}
 use Rattle.demands.specs.Calls.{Call, outcomeOf}
 use Rattle.demands.proofs.Endings.{Fails}

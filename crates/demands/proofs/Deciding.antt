@@ -24,16 +24,16 @@ use Rattle.codec.specs.Slots.{noRaw, some}
 use Rattle.bodies.specs.Bodies.{counterBody, counterRecord, counterIn, valueBody, valueRecord, valueIn, anchorBody, anchorRecord, anchorIn}
 use Rattle.bodies.specs.declared.AnchorRecord.{AnchorRecord}
 use Rattle.bodies.proofs.RoundTrip.{value-read}
-use Rattle.seeding.specs.declared.Seed.{Seed}
-use Rattle.seeding.specs.Seeds.{seeded}
-use Rattle.seeding.proofs.Seeding.{seeded-most}
+use Rattle.decisions.specs.declared.seeds.Seed.{Seed}
+use Rattle.decisions.specs.Seeds.{seeded}
+use Rattle.decisions.proofs.seeds.Seeding.{seeded-most}
 use Rattle.records.specs.Table.{joined, hasRoom, limit, placeOf, holds, falls}
 use Rattle.records.proofs.Joining.{nowhere}
-use Rattle.fitting.proofs.Owned.{Whole, AllWhole}
-use Rattle.deciding.specs.declared.Decision.{Decision}
-use Rattle.deciding.specs.Decisions.{refuse, give, write, sameCounter, putDecision, valueDecision, sameAnchor, anchorWrite, anchorDecision}
-use Rattle.reading.specs.Entering.{heldOf, roomFor}
-use Rattle.reading.proofs.Entering.{held-at}
+use Rattle.records.proofs.fitting.Owned.{Whole, AllWhole}
+use Rattle.decisions.specs.declared.Decision.{Decision}
+use Rattle.decisions.specs.Decisions.{refuse, give, write, sameCounter, putDecision, valueDecision, sameAnchor, anchorWrite, anchorDecision}
+use Rattle.reads.specs.Entering.{heldOf, roomFor}
+use Rattle.reads.proofs.Entering.{held-at}
 use Rattle.demands.specs.Typed.{TypedCounter, TypedAnchor, TypedSeeds}
 use Rattle.demands.proofs.Tables.{Proper, join-proper}
 use Rattle.demands.proofs.Performing.{Writes}

@@ -21,26 +21,26 @@ use Rattle.flash.proofs.Steps.{Programmed, program-refused, program-stopped, pr
 use Rattle.records.specs.declared.State.{State}
 use Rattle.records.specs.declared.State.the-variants.{Unformatted, Active, Failed}
 use Rattle.records.specs.declared.Log.{Log}
-use Rattle.fitting.specs.Fitting.{logFits}
-use Rattle.writing.specs.Sectors.{onDone, writeRecords, writeSector}
-use Rattle.writing.specs.Commits.{Wrote, after, commitFrom}
-use Rattle.writing.specs.Appends.{Tried, triesFrom, appendOf}
-use Rattle.reading.specs.Entering.{entryAnswer, heldOf, roomFor}
-use Rattle.reading.specs.declared.Counter.the-variants as counter
-use Rattle.reading.specs.declared.Number.the-variants as number
-use Rattle.reading.specs.declared.Anchored.the-variants as anchored
-use Rattle.reading.proofs.Entering.{answer-no-image, answer-bad-log, answer-bad-id, answer-done, turned-away, taken-in}
-use Rattle.reading.specs.Reads.{counterBy, getOf, numberBy, valueOf, anchorBy, anchorOf, told, refusedTold, lamportBy, migrationBy, needsMigrationOf}
-use Rattle.performing.specs.Outcomes.{Outcome, flashOf, refused, entered}
+use Rattle.records.specs.Fitting.{logFits}
+use Rattle.sectors.specs.Sectors.{onDone, writeRecords, writeSector}
+use Rattle.sectors.specs.Commits.{Wrote, after, commitFrom}
+use Rattle.sectors.specs.Appends.{Tried, triesFrom, appendOf}
+use Rattle.reads.specs.Entering.{entryAnswer, heldOf, roomFor}
+use Rattle.reads.specs.declared.Counter.the-variants as counter
+use Rattle.reads.specs.declared.Number.the-variants as number
+use Rattle.reads.specs.declared.Anchored.the-variants as anchored
+use Rattle.reads.proofs.Entering.{answer-no-image, answer-bad-log, answer-bad-id, answer-done, turned-away, taken-in}
+use Rattle.reads.specs.Reads.{counterBy, getOf, numberBy, valueOf, anchorBy, anchorOf, told, refusedTold, lamportBy, migrationBy, needsMigrationOf}
+use Rattle.decisions.specs.Outcomes.{Outcome, flashOf, refused, entered}
 use Rattle.ids.specs.declared.Anchor.{Anchor}
 use Rattle.ids.specs.Ids.{counterTag, valueTag, anchorTag, lamport as lamportId, isCredential, isValue}
 use Rattle.codec.specs.declared.OptRaw.{OptRaw}
 use Rattle.records.specs.Logs.{recordsOf, logOf}
 use Rattle.scan.specs.Opening.{scanOf, logFrom, openOf}
-use Rattle.deciding.specs.declared.Decision.{Decision}
-use Rattle.deciding.specs.Decisions.{whenActive}
-use Rattle.seeding.specs.Seeds.{seedsKnown, seedTable}
-use Rattle.performing.specs.Performing.{performed, decided, formatted}
+use Rattle.decisions.specs.declared.Decision.{Decision}
+use Rattle.decisions.specs.Decisions.{whenActive}
+use Rattle.decisions.specs.Seeds.{seedsKnown, seedTable}
+use Rattle.decisions.specs.Performing.{performed, decided, formatted}
 use Rattle.log.specs.Calls.{isFirst, anchoredFirst, anchored as anchoredOn, formatOn, putAnchorOf, formatOf}
 use Rattle.tries.specs.Tries.{remainingIn, loadBy}
 use Rattle.demands.specs.Calls.{Call, outcomeOf}

@@ -9,7 +9,7 @@ use lib.ListN.{length}
 use lib.Pow.{areBytes}
 use Rattle.flash.specs.Image.{sectorsIn}
 use Rattle.scan.specs.Opening.{openOf}
-use Rattle.performing.specs.Outcomes.{Outcome}
+use Rattle.decisions.specs.Outcomes.{Outcome}
 use Rattle.demands.specs.Shown.{Seen, seen, Table, tableIn, tableOf}
 use Rattle.records.specs.Logs.{recordsOf}
 use Rattle.demands.specs.Chance.{Unmatched}

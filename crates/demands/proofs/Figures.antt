@@ -13,13 +13,13 @@ use Rattle.records.specs.declared.State.{State}
 use Rattle.records.specs.declared.State.the-variants.{Active}
 use Rattle.records.specs.declared.Log.{Log}
 use Rattle.records.specs.Logs.{recordsOf}
-use Rattle.deciding.specs.declared.Decision.{Decision}
-use Rattle.deciding.specs.Decisions.{whenActive}
-use Rattle.reading.specs.Entering.{heldOf, roomFor}
-use Rattle.seeding.specs.declared.Seed.{Seed}
-use Rattle.seeding.specs.Seeds.{seedsKnown, seedTable}
-use Rattle.performing.specs.Outcomes.{Outcome, flashOf, entered}
-use Rattle.performing.specs.Performing.{performed, decided}
+use Rattle.decisions.specs.declared.Decision.{Decision}
+use Rattle.decisions.specs.Decisions.{whenActive}
+use Rattle.reads.specs.Entering.{heldOf, roomFor}
+use Rattle.decisions.specs.declared.seeds.Seed.{Seed}
+use Rattle.decisions.specs.Seeds.{seedsKnown, seedTable}
+use Rattle.decisions.specs.Outcomes.{Outcome, flashOf, entered}
+use Rattle.decisions.specs.Performing.{performed, decided}
 use Rattle.log.specs.Calls.{anchored, putAnchorOf, formatOn, formatOf}
 use Rattle.demands.specs.Healthy.{Healthy, healthy}
 use Rattle.demands.specs.Typed.{TypedSeeds}

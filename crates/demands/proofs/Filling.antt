@@ -14,8 +14,8 @@ use Rattle.codec.specs.Slots.{slotOf}
 use Rattle.flash.specs.Image.{slotAt, withSlot}
 use Rattle.flash.specs.Run.{Flash, Stepped, program}
 use Rattle.flash.proofs.View.{Fits, with-slot-length, with-slot-here, with-slot-beside, with-slot-apart, with-slot-bytes}
-use Rattle.fitting.proofs.Owned.{AllWhole}
-use Rattle.writing.specs.Sectors.{writeRecords}
+use Rattle.records.proofs.fitting.Owned.{AllWhole}
+use Rattle.sectors.specs.Sectors.{writeRecords}
 use Rattle.demands.specs.Chance.{cutAt}
 use Rattle.demands.specs.Healthy.{Healthy}
 use Rattle.demands.proofs.Torn.{slot-sixteen, slot-bytes, cut-length, cut-bytes}

@@ -19,10 +19,10 @@ use Rattle.records.specs.declared.State.the-variants.{Unformatted, Failed, Acti
 use Rattle.records.specs.declared.Log.{Log}
 use Rattle.records.specs.Table.{joined}
 use Rattle.records.specs.Logs.{logOf, recordsOf}
-use Rattle.fitting.specs.Fitting.{seqMax}
-use Rattle.deciding.specs.declared.Decision.{Decision}
-use Rattle.performing.specs.Outcomes.{Outcome}
-use Rattle.performing.specs.Performing.{performed, formatted}
+use Rattle.records.specs.Fitting.{seqMax}
+use Rattle.decisions.specs.declared.Decision.{Decision}
+use Rattle.decisions.specs.Outcomes.{Outcome}
+use Rattle.decisions.specs.Performing.{performed, formatted}
 use Rattle.demands.specs.Chance.{Unmatched}
 use Rattle.demands.specs.Healthy.{Healthy}
 use Rattle.demands.specs.Shown.{Seen, seenBy, seen, Table, holding, tableIn, tableOf}

@@ -32,8 +32,8 @@ use Rattle.scan.specs.Reading.{Read, tooMany, these, readFrom, recordsIn, headI
 use Rattle.scan.specs.Opening.{regionRead, regionChosen, scanOf, nextOf, logFrom, openOf}
 use Rattle.scan.proofs.Winning.{Right, chosen-right, winner-chosen, none-chosen}
 use Rattle.scan.proofs.Viewing.{head-right}
-use Rattle.fitting.specs.Fitting.{seqMax, stateFits, logFits}
-use Rattle.fitting.proofs.Laws.{Placed, placed-state, log-fits}
+use Rattle.records.specs.Fitting.{seqMax, stateFits, logFits}
+use Rattle.records.proofs.fitting.Laws.{Placed, placed-state, log-fits}
 use Rattle.demands.specs.Shown.{active, seenBy, seen, headOf}
 use Rattle.demands.proofs.Tables.{Proper, proper-none, ProperRead, read-proper, read-on, read-quiet}
 

@@ -21,19 +21,19 @@ use Rattle.flash.proofs.View.{Fits}
 use Rattle.flash.proofs.Steps.{program-fits, program-beside, program-apart, erase-fits, erase-apart}
 use Rattle.records.specs.declared.State.{State}
 use Rattle.records.specs.declared.State.the-variants.{Active, Unformatted}
-use Rattle.writing.specs.Sectors.{writeSector}
-use Rattle.writing.specs.Commits.{Wrote, after, commitFrom, commitAfter, commitFirst}
-use Rattle.writing.specs.Appends.{Tried, triesFrom, appendOf}
+use Rattle.sectors.specs.Sectors.{writeSector}
+use Rattle.sectors.specs.Commits.{Wrote, after, commitFrom, commitAfter, commitFirst}
+use Rattle.sectors.specs.Appends.{Tried, triesFrom, appendOf}
 use Rattle.flash.specs.declared.Plan.{Plan}
 use Rattle.flash.proofs.Geometry.{sectors-whole}
 use Rattle.records.specs.declared.Log.{Log}
 use Rattle.records.specs.Table.{limit, joined, hasRoom}
 use Rattle.records.specs.Logs.{logOf, recordsOf}
 use Rattle.records.proofs.Places.{places-take}
-use Rattle.fitting.specs.Fitting.{logFits}
-use Rattle.fitting.proofs.Laws.{fits-clauses, fits-active, fits-unformatted}
-use Rattle.performing.specs.Outcomes.{Outcome, flashOf}
-use Rattle.performing.specs.Performing.{wroteOutcome}
+use Rattle.records.specs.Fitting.{logFits}
+use Rattle.records.proofs.fitting.Laws.{fits-clauses, fits-active, fits-unformatted}
+use Rattle.decisions.specs.Outcomes.{Outcome, flashOf}
+use Rattle.decisions.specs.Performing.{wroteOutcome}
 use Rattle.demands.specs.Calls.{Call, outcomeOf}
 use Rattle.demands.specs.Leaves.{Spares, Leaves}
 use Rattle.demands.proofs.Tables.{join-few}

@@ -16,10 +16,10 @@ use Rattle.records.specs.declared.Log.{Log}
 use Rattle.records.specs.Table.{joined}
 use Rattle.records.specs.Logs.{logOf, recordsOf}
 use Rattle.records.proofs.Places.{places-take}
-use Rattle.writing.specs.Commits.{Wrote, commitFirst}
-use Rattle.deciding.specs.declared.Decision.{Decision}
-use Rattle.performing.specs.Outcomes.{Outcome}
-use Rattle.performing.specs.Performing.{wroteOutcome, appended, performed, formatted}
+use Rattle.sectors.specs.Commits.{Wrote, commitFirst}
+use Rattle.decisions.specs.declared.Decision.{Decision}
+use Rattle.decisions.specs.Outcomes.{Outcome}
+use Rattle.decisions.specs.Performing.{wroteOutcome, appended, performed, formatted}
 use Rattle.demands.specs.Chance.{Unmatched}
 use Rattle.demands.specs.Shown.{Seen, seenBy, seen, Table, holding, tableIn, tableOf}
 use Rattle.demands.proofs.Tables.{Proper, Writable}

@@ -32,13 +32,13 @@ use Rattle.records.specs.declared.Log.{Log}
 use Rattle.records.specs.Table.{hasKey, holds, joined}
 use Rattle.records.specs.Logs.{recordsOf}
 use Rattle.scan.specs.Opening.{openOf}
-use Rattle.deciding.specs.declared.Decision.{Decision}
-use Rattle.deciding.specs.Decisions.{whenActive, give, write, anchorDecision}
-use Rattle.reading.specs.Entering.{entryAnswer, heldOf, roomFor}
-use Rattle.seeding.specs.declared.Seed.{Seed}
-use Rattle.seeding.specs.Seeds.{seedsKnown, seedTable}
-use Rattle.performing.specs.Outcomes.{Outcome, flashOf, refused, entered}
-use Rattle.performing.specs.Performing.{decided}
+use Rattle.decisions.specs.declared.Decision.{Decision}
+use Rattle.decisions.specs.Decisions.{whenActive, give, write, anchorDecision}
+use Rattle.reads.specs.Entering.{entryAnswer, heldOf, roomFor}
+use Rattle.decisions.specs.declared.seeds.Seed.{Seed}
+use Rattle.decisions.specs.Seeds.{seedsKnown, seedTable}
+use Rattle.decisions.specs.Outcomes.{Outcome, flashOf, refused, entered}
+use Rattle.decisions.specs.Performing.{decided}
 use Rattle.log.specs.Calls.{anchorCall, anchored, putAnchorOf, formatOn, formatOf}
 use Rattle.tries.specs.Tries.{startOf, spendDecision, setDecision, setOf, seenOf}
 use Rattle.demands.specs.Chance.{Unmatched}

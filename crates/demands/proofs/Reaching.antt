@@ -18,11 +18,11 @@ use Rattle.flash.specs.Run.{Flash, Stepped, program}
 use Rattle.records.specs.declared.State.{State}
 use Rattle.records.specs.declared.State.the-variants.{Unformatted, Active}
 use Rattle.records.specs.Table.{joined}
-use Rattle.fitting.specs.Fitting.{seqMax}
-use Rattle.writing.specs.Sectors.{writeSector}
-use Rattle.writing.specs.Commits.{Wrote, after, commitFrom, commitAfter, commitFirst}
-use Rattle.writing.specs.Appends.{appendOf}
-use Rattle.writing.proofs.Stepping.{after-within, append-full, append-tried, tries-full, tries-done, commit-done}
+use Rattle.records.specs.Fitting.{seqMax}
+use Rattle.sectors.specs.Sectors.{writeSector}
+use Rattle.sectors.specs.Commits.{Wrote, after, commitFrom, commitAfter, commitFirst}
+use Rattle.sectors.specs.Appends.{appendOf}
+use Rattle.sectors.proofs.Stepping.{after-within, append-full, append-tried, tries-full, tries-done, commit-done}
 use Rattle.demands.specs.Healthy.{Healthy}
 use Rattle.demands.specs.Shown.{seenBy, holding, tableIn}
 use Rattle.demands.proofs.Torn.{slot-sixteen, slot-bytes}

@@ -21,9 +21,9 @@ use Rattle.flash.proofs.Steps.{erase-bytes, erase-fits, erase-apart}
 use Rattle.scan.specs.Choosing.{headerAt}
 use Rattle.scan.specs.Reading.{these, readFrom}
 use Rattle.scan.proofs.Winning.{valid-same}
-use Rattle.fitting.specs.Fitting.{seqMax}
-use Rattle.writing.specs.Sectors.{writeRecords, writeSector}
-use Rattle.writing.proofs.Stepping.{sector-unerased, sector-unfilled, sector-headed}
+use Rattle.records.specs.Fitting.{seqMax}
+use Rattle.sectors.specs.Sectors.{writeRecords, writeSector}
+use Rattle.sectors.proofs.Stepping.{sector-unerased, sector-unfilled, sector-headed}
 use Rattle.demands.specs.Chance.{cutAt}
 use Rattle.demands.specs.Healthy.{Healthy}
 use Rattle.demands.proofs.Torn.{header-sixteen, header-bytes, cut-length, cut-bytes, header-none, cut-header}

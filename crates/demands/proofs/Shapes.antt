@@ -15,12 +15,12 @@ use Rattle.flash.specs.declared.Plan.{Plan}
 use Rattle.records.specs.declared.State.{State}
 use Rattle.records.specs.declared.Log.{Log}
 use Rattle.records.specs.Table.{limit, hasRoom}
-use Rattle.deciding.specs.declared.Decision.{Decision}
-use Rattle.deciding.specs.Decisions.{putDecision, valueDecision}
-use Rattle.reading.specs.Entering.{heldOf, roomFor}
-use Rattle.seeding.specs.declared.Seed.{Seed}
-use Rattle.performing.specs.Outcomes.{Outcome, entered}
-use Rattle.performing.specs.Performing.{decided}
+use Rattle.decisions.specs.declared.Decision.{Decision}
+use Rattle.decisions.specs.Decisions.{putDecision, valueDecision}
+use Rattle.reads.specs.Entering.{heldOf, roomFor}
+use Rattle.decisions.specs.declared.seeds.Seed.{Seed}
+use Rattle.decisions.specs.Outcomes.{Outcome, entered}
+use Rattle.decisions.specs.Performing.{decided}
 use Rattle.log.specs.Calls.{putOf, putValueOf}
 use Rattle.tries.specs.Tries.{startOf, spendDecision, spendOf, setDecision, setOf, seenOf, advanceDecision, advanceOf}
 use Rattle.demands.specs.Shown.{Seen, seen}

@@ -21,17 +21,17 @@ use Rattle.records.specs.declared.State.the-variants.{Unformatted, Failed, Acti
 use Rattle.records.specs.declared.Log.{Log}
 use Rattle.records.specs.Table.{joined}
 use Rattle.records.specs.Logs.{recordsOf}
-use Rattle.fitting.specs.Fitting.{logFits}
-use Rattle.fitting.proofs.Laws.{fits-active}
-use Rattle.writing.specs.Commits.{Wrote}
-use Rattle.deciding.specs.declared.Decision.{Decision}
-use Rattle.deciding.specs.Decisions.{whenActive, anchorDecision}
-use Rattle.reading.specs.Entering.{entryAnswer, heldOf, roomFor}
-use Rattle.reading.proofs.Entering.{let-in-by}
-use Rattle.seeding.specs.declared.Seed.{Seed}
-use Rattle.seeding.specs.Seeds.{seedsKnown, seedTable}
-use Rattle.performing.specs.Outcomes.{Outcome, flashOf, refused, entered}
-use Rattle.performing.specs.Performing.{wroteOutcome, appended, performed, decided, formatted}
+use Rattle.records.specs.Fitting.{logFits}
+use Rattle.records.proofs.fitting.Laws.{fits-active}
+use Rattle.sectors.specs.Commits.{Wrote}
+use Rattle.decisions.specs.declared.Decision.{Decision}
+use Rattle.decisions.specs.Decisions.{whenActive, anchorDecision}
+use Rattle.reads.specs.Entering.{entryAnswer, heldOf, roomFor}
+use Rattle.reads.proofs.Entering.{let-in-by}
+use Rattle.decisions.specs.declared.seeds.Seed.{Seed}
+use Rattle.decisions.specs.Seeds.{seedsKnown, seedTable}
+use Rattle.decisions.specs.Outcomes.{Outcome, flashOf, refused, entered}
+use Rattle.decisions.specs.Performing.{wroteOutcome, appended, performed, decided, formatted}
 use Rattle.log.specs.Calls.{isFirst, anchorCall, anchoredFirst, anchored, putAnchorOf, formatOn, formatOf}
 use Rattle.demands.specs.Healthy.{unlimited}
 use Rattle.demands.specs.Calls.{Call, outcomeOf}

@@ -19,10 +19,10 @@ use Rattle.flash.proofs.Charging.{Short}
 use Rattle.flash.proofs.Steps.{Programmed, program-refused, program-stopped, program-whole, program-outcome, Erased, erase-refused, erase-stopped, erase-whole, erase-outcome}
 use Rattle.records.specs.declared.State.{State}
 use Rattle.records.specs.declared.State.the-variants.{Active}
-use Rattle.writing.specs.Sectors.{onDone, writeRecords, writeSector}
-use Rattle.writing.specs.Commits.{Wrote, after, commitFrom, commitAfter}
-use Rattle.writing.specs.Appends.{Tried, triesFrom, appendOf}
-use Rattle.writing.proofs.Stepping.{after-within}
+use Rattle.sectors.specs.Sectors.{onDone, writeRecords, writeSector}
+use Rattle.sectors.specs.Commits.{Wrote, after, commitFrom, commitAfter}
+use Rattle.sectors.specs.Appends.{Tried, triesFrom, appendOf}
+use Rattle.sectors.proofs.Stepping.{after-within}
 use Rattle.demands.specs.Healthy.{unlimited}
 use Rattle.demands.proofs.Tracing.{records-trace, sector-trace, commit-trace, tries-trace, append-trace}
 

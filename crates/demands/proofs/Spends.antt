@@ -30,15 +30,15 @@ use Rattle.records.specs.declared.State.the-variants.{Unformatted, Failed, Acti
 use Rattle.records.specs.declared.Log.{Log}
 use Rattle.records.specs.Table.{hasKey, sameKey, placeOf, holds, joined}
 use Rattle.records.specs.Logs.{recordsOf}
-use Rattle.deciding.specs.declared.Decision.{Decision}
-use Rattle.deciding.specs.Decisions.{whenActive, write, give}
-use Rattle.reading.specs.Entering.{heldOf, roomFor, entryAnswer}
+use Rattle.decisions.specs.declared.Decision.{Decision}
+use Rattle.decisions.specs.Decisions.{whenActive, write, give}
+use Rattle.reads.specs.Entering.{heldOf, roomFor, entryAnswer}
 use Rattle.tries.specs.Tries.{startOf, spentBy, spendFrom, spendDecision, spendOf}
 use Rattle.demands.specs.Shown.{seenBy, Table, blank, broken, holding, tableIn, tableOf, seen}
 use Rattle.demands.proofs.Invariant.{Found, Inv, inv-open, open-inv}
 use Rattle.scan.specs.Opening.{openOf}
-use Rattle.performing.specs.Outcomes.{Outcome, flashOf, refused, entered}
-use Rattle.performing.specs.Performing.{appended, performed, decided}
+use Rattle.decisions.specs.Outcomes.{Outcome, flashOf, refused, entered}
+use Rattle.decisions.specs.Performing.{appended, performed, decided}
 use Rattle.demands.specs.Chance.{Unmatched}
 use Rattle.demands.specs.Sessions.{World, opened, Made, played, AllTyped, Lasts}
 use Rattle.demands.specs.PulledStick.{triesIn, KeepsTries}

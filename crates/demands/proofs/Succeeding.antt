@@ -15,12 +15,12 @@ use Rattle.records.specs.declared.State.the-variants.{Unformatted, Active}
 use Rattle.records.specs.declared.Log.{Log}
 use Rattle.records.specs.Table.{joined}
 use Rattle.records.specs.Logs.{logOf, recordsOf}
-use Rattle.fitting.specs.Fitting.{seqMax}
-use Rattle.writing.specs.Commits.{Wrote, after, commitFirst}
-use Rattle.writing.specs.Appends.{appendOf}
-use Rattle.deciding.specs.declared.Decision.{Decision}
-use Rattle.performing.specs.Outcomes.{Outcome}
-use Rattle.performing.specs.Performing.{wroteOutcome, appended, performed, formatted}
+use Rattle.records.specs.Fitting.{seqMax}
+use Rattle.sectors.specs.Commits.{Wrote, after, commitFirst}
+use Rattle.sectors.specs.Appends.{appendOf}
+use Rattle.decisions.specs.declared.Decision.{Decision}
+use Rattle.decisions.specs.Outcomes.{Outcome}
+use Rattle.decisions.specs.Performing.{wroteOutcome, appended, performed, formatted}
 use Rattle.demands.specs.Healthy.{Healthy}
 use Rattle.demands.proofs.Tables.{Proper, Writable}
 use Rattle.demands.proofs.Invariant.{Agrees, Inv}

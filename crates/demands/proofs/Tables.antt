@@ -22,9 +22,9 @@ use Rattle.records.proofs.Finding.{place-most, place-holds}
 use Rattle.records.proofs.Joining.{nowhere, join-held, join-new, absorb-join, absorb-kept, absorb-new}
 use Rattle.records.proofs.Keys.{Apart}
 use Rattle.scan.specs.Reading.{Read, tooMany, these, withRecord, withSlot, readFrom}
-use Rattle.fitting.specs.Fitting.{keysFit}
-use Rattle.fitting.proofs.Laws.{Tagged, keys-apart, keys-tagged, join-keys}
-use Rattle.fitting.proofs.Owned.{Whole, AllWhole}
+use Rattle.records.specs.Fitting.{keysFit}
+use Rattle.records.proofs.fitting.Laws.{Tagged, keys-apart, keys-tagged, join-keys}
+use Rattle.records.proofs.fitting.Owned.{Whole, AllWhole}
 use Rattle.demands.proofs.Torn.{decoded-or}
 
 -- ---- a table that a log may hold

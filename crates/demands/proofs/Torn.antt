@@ -24,7 +24,7 @@ use Rattle.codec.specs.Slots.{sealed, crcIn, headerBytes, headerSlot, isHeader,
 use Rattle.codec.proofs.RoundTrip.{sealed-length, sealed-bytes, slot-parts, Sealed, decode-sealed, header-read, header-sealed}
 use Rattle.flash.specs.Run.{landed}
 use Rattle.flash.proofs.Landing.{landed-blank}
-use Rattle.fitting.proofs.Owned.{Whole}
+use Rattle.records.proofs.fitting.Owned.{Whole}
 use Rattle.demands.specs.Chance.{cutAt, ChanceMatch}
 
 -- ---- the bytes of slots

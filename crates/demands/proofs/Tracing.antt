@@ -15,10 +15,10 @@ use Rattle.codec.specs.Slots.{slotOf, headerSlot}
 use Rattle.flash.specs.Run.{Flash, Stepped, program, erase}
 use Rattle.records.specs.declared.State.{State}
 use Rattle.records.specs.declared.State.the-variants.{Active}
-use Rattle.writing.specs.Sectors.{onDone, writeRecords, writeSector}
-use Rattle.writing.specs.Commits.{Wrote, after, commitFrom}
-use Rattle.writing.specs.Appends.{Tried, triesFrom, appendOf}
-use Rattle.writing.proofs.Stepping.{after-within}
+use Rattle.sectors.specs.Sectors.{onDone, writeRecords, writeSector}
+use Rattle.sectors.specs.Commits.{Wrote, after, commitFrom}
+use Rattle.sectors.specs.Appends.{Tried, triesFrom, appendOf}
+use Rattle.sectors.proofs.Stepping.{after-within}
 
 -- R holds between a flash and what a step makes of it, where the step may be taken
 module _ (R : Flash → Flash → Type 0) (stays : (f : Flash) → R f f) (follows : (f g h : Flash) → R f g → R g h → R f h)

@@ -25,11 +25,11 @@ use Rattle.codec.specs.Slots.{noRaw}
 use Rattle.bodies.specs.Bodies.{counterRecord, counterIn, valueRecord, valueIn}
 use Rattle.records.specs.Table.{placeOf}
 use Rattle.records.proofs.Joining.{nowhere}
-use Rattle.fitting.proofs.Owned.{Whole, AllWhole}
-use Rattle.deciding.specs.declared.Decision.{Decision}
-use Rattle.deciding.specs.Decisions.{write}
-use Rattle.reading.specs.Entering.{heldOf, roomFor}
-use Rattle.reading.proofs.Entering.{held-at}
+use Rattle.records.proofs.fitting.Owned.{Whole, AllWhole}
+use Rattle.decisions.specs.declared.Decision.{Decision}
+use Rattle.decisions.specs.Decisions.{write}
+use Rattle.reads.specs.Entering.{heldOf, roomFor}
+use Rattle.reads.proofs.Entering.{held-at}
 use Rattle.tries.specs.Tries.{startOf, spentBy, spendFrom, spendDecision, setDecision, lamportMax, seenOf, advanceFrom, advanceDecision}
 use Rattle.basics.specs.declared.Answer.the-variants.{WriteError}
 use Rattle.demands.specs.Typed.{TypedCounter}

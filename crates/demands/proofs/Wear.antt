@@ -19,11 +19,11 @@ use Rattle.flash.specs.Run.{Flash, program}
 use Rattle.flash.proofs.Steps.{Paid, program-paid, erase-paid, CutIsDead, program-cut, erase-cut}
 use Rattle.records.specs.declared.State.{State}
 use Rattle.records.specs.declared.State.the-variants.{Active}
-use Rattle.writing.specs.Sectors.{writeSector}
-use Rattle.writing.specs.Commits.{Wrote, after, commitFrom, commitAfter, commitFirst}
-use Rattle.writing.specs.Appends.{Tried, triesFrom, appendOf}
-use Rattle.writing.proofs.Costs.{Within, within-on, sector-within, tries-within}
-use Rattle.writing.proofs.Stepping.{after-within}
+use Rattle.sectors.specs.Sectors.{writeSector}
+use Rattle.sectors.specs.Commits.{Wrote, after, commitFrom, commitAfter, commitFirst}
+use Rattle.sectors.specs.Appends.{Tried, triesFrom, appendOf}
+use Rattle.sectors.proofs.Costs.{Within, within-on, sector-within, tries-within}
+use Rattle.sectors.proofs.Stepping.{after-within}
 use Rattle.demands.proofs.Tracing.{commit-trace, append-trace}
 
 -- ---- units

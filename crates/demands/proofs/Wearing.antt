@@ -17,10 +17,10 @@ use Rattle.records.specs.declared.State.the-variants.{Unformatted}
 use Rattle.records.specs.declared.Log.{Log}
 use Rattle.records.specs.Table.{limit, joined}
 use Rattle.records.specs.Logs.{recordsOf}
-use Rattle.fitting.proofs.Laws.{fits-clauses, fits-active}
-use Rattle.writing.specs.Commits.{commitFirst}
-use Rattle.writing.proofs.Costs.{Within, within-on}
-use Rattle.performing.specs.Outcomes.{Outcome, flashOf}
+use Rattle.records.proofs.fitting.Laws.{fits-clauses, fits-active}
+use Rattle.sectors.specs.Commits.{commitFirst}
+use Rattle.sectors.proofs.Costs.{Within, within-on}
+use Rattle.decisions.specs.Outcomes.{Outcome, flashOf}
 use Rattle.demands.specs.Calls.{Call, outcomeOf}
 use Rattle.demands.specs.Wear.{Wears}
 use Rattle.demands.proofs.Tables.{join-few}

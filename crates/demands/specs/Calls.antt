@@ -18,10 +18,10 @@ use Rattle.records.specs.declared.State.{State}
 use Rattle.records.specs.declared.State.the-variants.{Unformatted, Failed, Active}
 use Rattle.records.specs.declared.Log.{Log}
 use Rattle.records.specs.Logs.{recordsOf}
-use Rattle.reading.specs.Entering.{heldOf}
-use Rattle.seeding.specs.declared.Seed.{Seed}
-use Rattle.performing.specs.Outcomes.{Outcome, flashOf}
-use Rattle.performing.specs.Performing.{formatted}
+use Rattle.reads.specs.Entering.{heldOf}
+use Rattle.decisions.specs.declared.seeds.Seed.{Seed}
+use Rattle.decisions.specs.Outcomes.{Outcome, flashOf}
+use Rattle.decisions.specs.Performing.{formatted}
 use Rattle.log.specs.Calls.{isFirst, putOf, putValueOf, putAnchorOf, formatOf}
 use Rattle.tries.specs.Tries.{startOf, spendOf, setOf, seenOf, advanceOf}
 use Rattle.demands.specs.Chance.{Unmatched}

@@ -16,18 +16,18 @@ use Rattle.records.specs.declared.State.the-variants.{Unformatted, Failed, Acti
 use Rattle.records.specs.declared.Log.{Log}
 use Rattle.records.specs.Logs.{logOf}
 use Rattle.scan.specs.Opening.{openOf}
-use Rattle.fitting.specs.Fitting.{logFits}
-use Rattle.reading.specs.declared.Counter.{Counter}
-use Rattle.reading.specs.declared.Counter.the-variants as counter
-use Rattle.reading.specs.declared.Number.{Number}
-use Rattle.reading.specs.declared.Number.the-variants as number
-use Rattle.reading.specs.declared.Anchored.{Anchored}
-use Rattle.reading.specs.declared.Anchored.the-variants as anchored
-use Rattle.reading.specs.declared.Told.{Told}
-use Rattle.reading.specs.Reads.{getOf, valueOf, anchorOf, lamportOf, needsMigrationOf, refusedTold}
-use Rattle.seeding.specs.Seeds.{seedsKnown}
+use Rattle.records.specs.Fitting.{logFits}
+use Rattle.reads.specs.declared.Counter.{Counter}
+use Rattle.reads.specs.declared.Counter.the-variants as counter
+use Rattle.reads.specs.declared.Number.{Number}
+use Rattle.reads.specs.declared.Number.the-variants as number
+use Rattle.reads.specs.declared.Anchored.{Anchored}
+use Rattle.reads.specs.declared.Anchored.the-variants as anchored
+use Rattle.reads.specs.declared.Told.{Told}
+use Rattle.reads.specs.Reads.{getOf, valueOf, anchorOf, lamportOf, needsMigrationOf, refusedTold}
+use Rattle.decisions.specs.Seeds.{seedsKnown}
 use Rattle.log.specs.Calls.{isFirst}
-use Rattle.performing.specs.Outcomes.{flashOf, refused}
+use Rattle.decisions.specs.Outcomes.{flashOf, refused}
 use Rattle.tries.specs.declared.Left.{Left}
 use Rattle.tries.specs.declared.Left.the-variants as left
 use Rattle.tries.specs.Tries.{remainingLeft, loadOf}

@@ -2,8 +2,8 @@
 use mathlib.Core.Path.{_≡_}
 use mathlib.Core.List.{List}
 use Prim.Native.Nat.{ℕ}
-use Rattle.performing.specs.declared.Done.{Done}
-use Rattle.performing.specs.Outcomes.{Outcome, Meets}
+use Rattle.decisions.specs.declared.outcomes.Done.{Done}
+use Rattle.decisions.specs.Outcomes.{Outcome, Meets}
 
 -- two results that meet one outcome are equal
 abbrev pub Unique : Outcome → Type 0

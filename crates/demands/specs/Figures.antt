@@ -12,14 +12,14 @@ use Rattle.records.specs.declared.State.the-variants.{Unformatted, Active}
 use Rattle.records.specs.declared.Log.{Log}
 use Rattle.records.specs.Table.{joined}
 use Rattle.records.specs.Logs.{logOf, recordsOf}
-use Rattle.fitting.specs.Fitting.{seqMax}
-use Rattle.writing.specs.Commits.{after}
-use Rattle.deciding.specs.declared.Decision.{Decision}
-use Rattle.deciding.specs.Decisions.{give, putDecision, valueDecision, anchorDecision}
-use Rattle.reading.specs.Entering.{heldOf, roomFor}
-use Rattle.seeding.specs.declared.Seed.{Seed}
-use Rattle.seeding.specs.Seeds.{seedTable}
-use Rattle.performing.specs.Outcomes.{Outcome}
+use Rattle.records.specs.Fitting.{seqMax}
+use Rattle.sectors.specs.Commits.{after}
+use Rattle.decisions.specs.declared.Decision.{Decision}
+use Rattle.decisions.specs.Decisions.{give, putDecision, valueDecision, anchorDecision}
+use Rattle.reads.specs.Entering.{heldOf, roomFor}
+use Rattle.decisions.specs.declared.seeds.Seed.{Seed}
+use Rattle.decisions.specs.Seeds.{seedTable}
+use Rattle.decisions.specs.Outcomes.{Outcome}
 use Rattle.tries.specs.Tries.{spendDecision, setDecision, advanceDecision}
 use Rattle.demands.specs.Healthy.{healthy}
 use Rattle.demands.specs.Calls.{Call, put, put-value, put-anchor, format, spend, set-tries, advance-lamport, outcomeOf}

@@ -7,7 +7,7 @@ use Rattle.flash.specs.Image.{slotAt}
 use Rattle.records.specs.declared.State.the-variants.{Active}
 use Rattle.records.specs.declared.Log.{Log}
 use Rattle.records.specs.Logs.{recordsOf}
-use Rattle.performing.specs.Outcomes.{Outcome}
+use Rattle.decisions.specs.Outcomes.{Outcome}
 
 -- the active sector keeps its number and sequence number; the slots tried lie from the head of before up to the head of now
 pub record Spares (s seq head : ℕ) (image : List ℕ) (o : Outcome) : Type 0 where

@@ -16,7 +16,7 @@ use Rattle.flash.specs.declared.Plan.{Plan}
 use Rattle.records.specs.declared.Log.{Log}
 use Rattle.records.specs.Logs.{recordsOf}
 use Rattle.scan.specs.Opening.{openOf}
-use Rattle.reading.specs.Entering.{heldOf}
+use Rattle.reads.specs.Entering.{heldOf}
 use Rattle.tries.specs.Tries.{startOf}
 use Rattle.demands.specs.Calls.{Call, put, put-value, put-anchor, format, spend, set-tries, advance-lamport, Typed, NoChance}
 use Rattle.demands.specs.Sessions.{World, opened, Made, outcome, played}

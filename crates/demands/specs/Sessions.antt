@@ -6,7 +6,7 @@ use Prim.Native.Nat.{ℕ}
 use Rattle.flash.specs.declared.Plan.{Plan}
 use Rattle.records.specs.declared.Log.{Log}
 use Rattle.scan.specs.Opening.{openOf}
-use Rattle.performing.specs.Outcomes.{Outcome}
+use Rattle.decisions.specs.Outcomes.{Outcome}
 use Rattle.demands.specs.Calls.{Call, outcomeOf, Typed}
 
 -- an image, and the log value in memory

@@ -3,7 +3,7 @@ use mathlib.Core.List.{List, [], _∷_}
 use Prim.Native.Nat.{_<_, _^_}
 use Rattle.ids.specs.declared.CounterState.{CounterState}
 use Rattle.ids.specs.declared.Anchor.{Anchor}
-use Rattle.seeding.specs.declared.Seed.{Seed}
+use Rattle.decisions.specs.declared.seeds.Seed.{Seed}
 
 pub record TypedCounter (s : CounterState) : Type 0 where
   pub total : s .total < 2 ^ 32

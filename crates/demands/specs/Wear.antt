@@ -3,7 +3,7 @@ use mathlib.Core.Path.{_≡_}
 use mathlib.Core.Bool.{true, false}
 use Prim.Native.Nat.{_+_, _≤_}
 use Rattle.flash.specs.declared.Plan.{Plan}
-use Rattle.performing.specs.Outcomes.{Outcome}
+use Rattle.decisions.specs.Outcomes.{Outcome}
 
 -- what a call that was made on this plan comes to
 pub record Wears (plan : Plan) (o : Outcome) : Type 0 where

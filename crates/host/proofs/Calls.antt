@@ -9,14 +9,14 @@ use Rattle.flash.specs.declared.Plan.{Plan}
 use Rattle.records.specs.declared.Log.{Log}
 use Rattle.records.proofs.Log as L
 use Rattle.records.proofs.Log.Laws as L′
-use Rattle.performing.specs.declared.Done.{Done}
-use Rattle.performing.specs.Outcomes.{Outcome, Meets}
-use Rattle.performing.proofs.Done as D
-use Rattle.performing.proofs.Done.Laws as D′
-use Rattle.host.specs.Lent.{Leaves}
+use Rattle.decisions.specs.declared.outcomes.Done.{Done}
+use Rattle.decisions.specs.Outcomes.{Outcome, Meets}
+use Rattle.decisions.proofs.outcomes.Done as D
+use Rattle.decisions.proofs.outcomes.Done.Laws as D′
+use Rattle.host.specs.LentCalls.{Leaves}
 use Rattle.host.proofs.plan_after.Symbol as plan-after
-use Rattle.lending.proofs.Plain.{struct-single, Singles}
-use Rattle.lending.proofs.InPlace.{Answering, Lending}
+use Rattle.host.proofs.lent.Plain.{struct-single, Singles}
+use Rattle.host.proofs.lent.InPlace.{Answering, Lending}
 
 abbrev pub done : Answering
 done = record {

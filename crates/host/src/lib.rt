@@ -1,16 +1,27 @@
+// The same calls on a plan that is lent and run down in place; a PIN attempt.
 // The host build: calls on a plan that is lent, and run down in place, call after call.
 // Each takes the plan out whole, makes the call by value, and puts back whole what the call left of it.
+
+mod lent; // The flash with a plan that is lent, and run down in place
+pub mod attempts; // A PIN attempt
+
+pub use attempts::Attempted;
+pub use attempts::attempt;
+pub use lent::erase;
+pub use lent::program;
+
+// What stands here uses:
+use decisions::Done;
+use decisions::SEEDS;
+use decisions::Seed;
 use flash::Plan;
 use ids::Anchor;
 use ids::CounterState;
-use performing::Done;
 use records::Log;
-use seeding::SEEDS;
-use seeding::Seed;
 ghost use mathlib.Core.Path.{_≡_};
 ghost use Rattle.log.specs.Calls.{putOf, putValueOf, putAnchorOf, formatOf};
 ghost use Rattle.tries.specs.Tries.{spendOf, setOf, advanceOf};
-ghost use Rattle.host.specs.Lent.{Leaves};
+ghost use Rattle.host.specs.LentCalls.{Leaves};
 
 // The plan that a call hands back.
 fn plan_after(done: Done) -> Plan
@@ -23,7 +34,7 @@ fn plan_after(done: Done) -> Plan
 pub fn put(image: &mut [u8], log: Log, plan: &mut Plan, credential: u8, new: CounterState) -> Done
     ensures { λ r. ⌜ Leaves (putOf (now (image .entry)) log (now (plan .entry)) credential new) r (now (image .exit)) (now (plan .exit)) ⌝ }
 {
-    let done = putting::put(image, log, *plan, credential, new);
+    let done = log::put(image, log, *plan, credential, new);
     *plan = plan_after(done);
     done
 }
@@ -31,7 +42,7 @@ pub fn put(image: &mut [u8], log: Log, plan: &mut Plan, credential: u8, new: Cou
 pub fn put_value(image: &mut [u8], log: Log, plan: &mut Plan, id: u8, new: u64) -> Done
     ensures { λ r. ⌜ Leaves (putValueOf (now (image .entry)) log (now (plan .entry)) id new) r (now (image .exit)) (now (plan .exit)) ⌝ }
 {
-    let done = putting::put_value(image, log, *plan, id, new);
+    let done = log::put_value(image, log, *plan, id, new);
     *plan = plan_after(done);
     done
 }
@@ -39,7 +50,7 @@ pub fn put_value(image: &mut [u8], log: Log, plan: &mut Plan, id: u8, new: u64) 
 pub fn put_anchor(image: &mut [u8], log: Log, plan: &mut Plan, new: Anchor) -> Done
     ensures { λ r. ⌜ Leaves (putAnchorOf (now (image .entry)) log (now (plan .entry)) new) r (now (image .exit)) (now (plan .exit)) ⌝ }
 {
-    let done = anchored::put_anchor(image, log, *plan, new);
+    let done = log::put_anchor(image, log, *plan, new);
     *plan = plan_after(done);
     done
 }
@@ -53,7 +64,7 @@ pub fn format(
 ) -> Done
     ensures { λ r. ⌜ Leaves (formatOf (now (image .entry)) log (now (plan .entry)) seeds count) r (now (image .exit)) (now (plan .exit)) ⌝ }
 {
-    let done = starting::format(image, log, *plan, seeds, count);
+    let done = log::format(image, log, *plan, seeds, count);
     *plan = plan_after(done);
     done
 }
@@ -61,7 +72,7 @@ pub fn format(
 pub fn spend(image: &mut [u8], log: Log, plan: &mut Plan, credential: u8, current: u8) -> Done
     ensures { λ r. ⌜ Leaves (spendOf (now (image .entry)) log (now (plan .entry)) credential current) r (now (image .exit)) (now (plan .exit)) ⌝ }
 {
-    let done = spending::spend(image, log, *plan, credential, current);
+    let done = tries::spend(image, log, *plan, credential, current);
     *plan = plan_after(done);
     done
 }
@@ -69,7 +80,7 @@ pub fn spend(image: &mut [u8], log: Log, plan: &mut Plan, credential: u8, curren
 pub fn set(image: &mut [u8], log: Log, plan: &mut Plan, credential: u8, tries: u8) -> Done
     ensures { λ r. ⌜ Leaves (setOf (now (image .entry)) log (now (plan .entry)) credential tries) r (now (image .exit)) (now (plan .exit)) ⌝ }
 {
-    let done = spending::set(image, log, *plan, credential, tries);
+    let done = tries::set(image, log, *plan, credential, tries);
     *plan = plan_after(done);
     done
 }
@@ -77,7 +88,7 @@ pub fn set(image: &mut [u8], log: Log, plan: &mut Plan, credential: u8, tries: u
 pub fn advance_lamport(image: &mut [u8], log: Log, plan: &mut Plan, seen: u64) -> Done
     ensures { λ r. ⌜ Leaves (advanceOf (now (image .entry)) log (now (plan .entry)) seen) r (now (image .exit)) (now (plan .exit)) ⌝ }
 {
-    let done = clock::advance_lamport(image, log, *plan, seen);
+    let done = tries::advance_lamport(image, log, *plan, seen);
     *plan = plan_after(done);
     done
 }

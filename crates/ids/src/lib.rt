@@ -1,5 +1,14 @@
+// Credentials, values and anchors; what a tag and id mean; the counter of tries.
 // The numbers in a record: device values, tags and what they can mean,
-// and the counter of failed tries that is kept for each credential. The look-ups stand in meanings.
+// and the counter of failed tries that is kept for each credential.
+
+mod meanings; // What the numbers in a record stand for
+
+pub use meanings::is_credential;
+pub use meanings::is_monotonic;
+pub use meanings::is_value;
+
+// What stands here uses:
 use basics::Answer;
 ghost use mathlib.Core.Path.{_≡_};
 ghost use Rattle.ids.specs.Counters.{freshOf, remainingOf, failedOf, resetOf};

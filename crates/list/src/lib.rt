@@ -16,7 +16,7 @@ fn put_number(out: &mut [u8], at: usize, x: u64, behind: u8) -> usize
     requires { ⌜ at + length (number x behind) ≤ length (now out) ⌝ }
     ensures { λ r. ⌜ Puts (now (out .entry)) at (number x behind) (now (out .exit)) r ⌝ }
 {
-    let end = figures::put_decimal(out, at, x);
+    let end = text::put_decimal(out, at, x);
     text::put_byte(out, end, behind)
 }
 
@@ -77,7 +77,7 @@ pub fn list(image: &[u8], out: &mut [u8]) -> usize
     if out.len() < LONGEST {
         return 0;
     }
-    let o = opening::open(image);
+    let o = scan::open(image);
     let answer = o.answer;
     if !basics::is_done(answer) {
         return text::put_bytes(out, 0, b"bad-image\n");

@@ -23,17 +23,17 @@ use Rattle.records.specs.declared.State.the-variants.{Unformatted, Failed, Acti
 use Rattle.records.specs.declared.Log.{Log}
 use Rattle.records.specs.Table.{holds}
 use Rattle.records.specs.Logs.{logOf, recordsOf}
-use Rattle.fitting.specs.Fitting.{logFits, keysFit}
-use Rattle.fitting.proofs.Laws.{placed-state, log-fits}
-use Rattle.writing.specs.Commits.{Wrote, commitFirst}
-use Rattle.writing.proofs.Committed.{Committed, committed}
-use Rattle.writing.proofs.Costs.{commit-within}
-use Rattle.deciding.specs.Decisions.{whenActive, anchorDecision}
-use Rattle.reading.specs.declared.Entry.{Entry}
-use Rattle.reading.specs.Entering.{heldOf, roomFor, entryOf}
-use Rattle.performing.specs.Outcomes.{Outcome, flashOf, refused, entered}
-use Rattle.performing.specs.Performing.{performed, formatted}
-use Rattle.performing.proofs.Calling.{entered-refused, entered-in}
+use Rattle.records.specs.Fitting.{logFits, keysFit}
+use Rattle.records.proofs.fitting.Laws.{placed-state, log-fits}
+use Rattle.sectors.specs.Commits.{Wrote, commitFirst}
+use Rattle.sectors.proofs.Committed.{Committed, committed}
+use Rattle.sectors.proofs.Costs.{commit-within}
+use Rattle.decisions.specs.Decisions.{whenActive, anchorDecision}
+use Rattle.reads.specs.declared.Entry.{Entry}
+use Rattle.reads.specs.Entering.{heldOf, roomFor, entryOf}
+use Rattle.decisions.specs.Outcomes.{Outcome, flashOf, refused, entered}
+use Rattle.decisions.specs.Performing.{performed, formatted}
+use Rattle.decisions.proofs.outcomes.Calling.{entered-refused, entered-in}
 use Rattle.log.specs.Calls.{isFirst, anchorCall, anchoredFirst, anchored, putAnchorOf}
 use Rattle.log.specs.Steps.{opensLog}
 

@@ -12,10 +12,10 @@ use Rattle.codec.specs.declared.Raw.{Raw}
 use Rattle.records.specs.Table.{limit}
 use Rattle.records.specs.Logs.{places}
 use Rattle.records.proofs.Places.{places-take}
-use Rattle.seeding.specs.declared.Seed.{Seed}
-use Rattle.seeding.specs.Seeds.{allKnown, seedsKnown, seedTable}
-use Rattle.seeding.proofs.Seeding.{seeded-most}
-use Rattle.performing.specs.Steps.{Filled}
+use Rattle.decisions.specs.declared.seeds.Seed.{Seed}
+use Rattle.decisions.specs.Seeds.{allKnown, seedsKnown, seedTable}
+use Rattle.decisions.proofs.seeds.Seeding.{seeded-most}
+use Rattle.decisions.specs.PerformingSteps.{Filled}
 
 pub known-few : (seeds : List Seed) (count : ℕ) → seedsKnown seeds count ≡ true → count ≤ 8
 known-few seeds count e = leb-true count 8 (both.first (leb count 8) (allKnown (take count seeds)) e)

@@ -16,11 +16,11 @@ use Rattle.flash.specs.Run.{Flash}
 use Rattle.records.specs.declared.State.{State}
 use Rattle.records.specs.declared.State.the-variants.{Unformatted, Failed, Active}
 use Rattle.records.specs.declared.Log.{Log}
-use Rattle.deciding.specs.Decisions.{putDecision, valueDecision, anchorDecision}
-use Rattle.performing.specs.Outcomes.{Outcome, refused, entered}
-use Rattle.performing.specs.Performing.{decided, formatted}
-use Rattle.seeding.specs.declared.Seed.{Seed}
-use Rattle.seeding.specs.Seeds.{seedsKnown, seedTable}
+use Rattle.decisions.specs.Decisions.{putDecision, valueDecision, anchorDecision}
+use Rattle.decisions.specs.Outcomes.{Outcome, refused, entered}
+use Rattle.decisions.specs.Performing.{decided, formatted}
+use Rattle.decisions.specs.declared.seeds.Seed.{Seed}
+use Rattle.decisions.specs.Seeds.{seedsKnown, seedTable}
 
 -- ---- put and put_value
 unfoldable pub putOf : List ℕ → Log → Plan → ℕ → CounterState → Outcome

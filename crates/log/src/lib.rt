@@ -1,2 +1,11 @@
-// What the calls that write come to: put, put_value, put_anchor and format, defined in specs/, with laws of theirs in proofs/.
-// The calls themselves stand in putting, anchored and starting.
+// The calls that write: put, put_value, put_anchor, format.
+// What they come to is defined in specs/Calls.antt.
+
+pub mod anchors; // The call put_anchor
+pub mod formats; // The call format
+pub mod puts; // The calls that write one record
+
+pub use anchors::put_anchor;
+pub use formats::format;
+pub use puts::put;
+pub use puts::put_value;

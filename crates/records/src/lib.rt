@@ -1,4 +1,13 @@
+// The log value and its table of records, and whether it fits an image.
 // The log value: its state, and a table of at most 32 records as places and a count. Records are found by their keys.
+
+pub mod fitting; // What a log value must be to fit an image of so many sectors, and the tests of its state and of the places past its count
+mod survey; // A survey of the records of a log value
+mod lookup; // Looking a log value over once
+
+pub use lookup::look;
+
+// What stands here uses:
 use codec::Raw;
 ghost use mathlib.Core.Path.{_≡_};
 ghost use mathlib.Core.Bool.{not};
@@ -66,8 +75,8 @@ pub fn find(tags: &[u8], ids: &[u8], count: usize, tag: u8, id: u8) -> usize
 pub fn replaces(new: Raw, held: Raw) -> bool
     ensures { λ r. ⌜ r ≡ not (falls new held) ⌝ }
 {
-    if meanings::is_monotonic(new.tag, new.id) {
-        values::value_of(held) <= values::value_of(new)
+    if ids::is_monotonic(new.tag, new.id) {
+        bodies::value_of(held) <= bodies::value_of(new)
     } else {
         true
     }

@@ -1,15 +1,25 @@
+// Program: plays a script and writes every answer, to compare with the Rust.
 // Replays the script on standard input: does its calls one by one, and writes what each answered on standard output.
 // The input comes in chunks; what a chunk has of a line without its end waits for the next.
-use board::Board;
-use board::SPACE;
-use board::Step;
-use sessions::Chunk;
-use sessions::Round;
-use sessions::Session;
+
+mod output; // Text to standard output by way of a lent buffer
+mod changes; // What a call changed of the image, as runs of hex
+mod answers; // What is written of a call
+pub mod sessions; // How far a script is
+mod views; // The line that is written of a call; and the lines that look at the image
+pub mod calls; // The calls that can write
+mod queries; // The calls that only read the log
+
+use crate::sessions::Chunk;
+use crate::sessions::Round;
+use crate::sessions::Session;
+use script::Board;
+use script::SPACE;
+use script::Step;
 ghost use mathlib.Core.Path.{_≡_};
 ghost use Prim.Native.Nat.{_≤_};
 ghost use lib.ListN.{length};
-ghost use Rattle.sessions.specs.Limits.{Sound};
+ghost use Rattle.replay.specs.Limits.{Sound};
 
 // The most characters of a line.
 const LINE: usize = 16384;
@@ -32,7 +42,7 @@ fn write(
     let log = board.log;
     let plan = board.plan;
     changes::copy(image, before);
-    let w = calling::write(line, e, image, log, plan);
+    let w = calls::write(line, e, image, log, plan);
     if !w.ok {
         return Step {
             ok: false,
@@ -51,7 +61,7 @@ fn write(
     };
     Step {
         ok: true,
-        at: showing::worked(out, at, value, d, before, image),
+        at: views::worked(out, at, value, d, before, image),
         board: new,
     }
 }
@@ -76,11 +86,11 @@ fn call(
     if r.ok {
         return Step {
             ok: true,
-            at: showing::answered(out, at, r, board),
+            at: views::answered(out, at, r, board),
             board: board,
         };
     }
-    let s = showing::look(line, image, out, at, board);
+    let s = views::look(line, image, out, at, board);
     if s.ok {
         return s;
     }
@@ -101,9 +111,9 @@ fn work(
     requires { ⌜ board .len ≤ 65536 ⌝ }
     ensures { λ r. ⌜ (r .at ≤ length (now (out .entry))) × (r .board .len ≤ 65536) ⌝ }
 {
-    let e = chunks::until(line, 0, b' ');
+    let e = script::until(line, 0, b' ');
     let n = board.len;
-    let s = setting::setting(line, e, image, board);
+    let s = script::setting(line, e, image, board);
     if s.ok {
         let new = s.board;
         return Step {
@@ -160,7 +170,7 @@ fn whole_lines(
     let mut s = session;
     let mut from: usize = 0;
     while from < text.len() {
-        let to = chunks::until(text, from, b'\n');
+        let to = script::until(text, from, b'\n');
         if LINE < to - from {
             s = sessions::too_long(s);
             break;
@@ -168,7 +178,7 @@ fn whole_lines(
         if to == text.len() {
             break;
         }
-        let end = chunks::trimmed(text, from, to);
+        let end = script::trimmed(text, from, to);
         s = turn(&text[from..end], image, saved, before, out, s);
         if s.over {
             break;
@@ -197,7 +207,7 @@ fn go_on(
 {
     let have = last.have;
     let s = last.session;
-    let all = chunks::more(input, have);
+    let all = script::more(input, have);
     if all == have {
         return sessions::ended(s);
     }

@@ -1,5 +1,13 @@
+// Opening an image: the sector that wins, its records and its head.
 // What opening an image gives, and its first step: the header that wins.
-// The pass over the slots of that sector, and the log that they give, stand in opening.
+
+mod sector; // One pass over the slots of the sector that won
+mod opening; // Opening an image
+
+pub use opening::open;
+pub use opening::scan_region;
+
+// What stands here uses:
 use basics::Answer;
 use codec::Header;
 use codec::Raw;
@@ -65,7 +73,7 @@ pub fn choose(image: &[u8], sectors: usize, version: u8) -> Chosen
     let mut best = Chosen::Nothing;
     let mut s: usize = 0;
     while s < sectors {
-        let h = headers::decode_header(flash::slot(image, s, 0), version);
+        let h = codec::decode_header(flash::slot(image, s, 0), version);
         best = better_of(best, s, h);
         s += 1;
     }

@@ -2,3 +2,5 @@
 pub mod Words
 pub mod Decimals
 pub mod Hex
+-- What is promised of the numbers of a line.
+pub mod Limits

@@ -1,4 +1,10 @@
+// Bytes, decimal and hex put into a buffer.
 // Text into a lent buffer: a byte, and bytes; figures has numbers. Each answers the place one past what it put.
+
+mod figures; // Numbers as text into a lent buffer
+
+pub use figures::put_decimal;
+pub use figures::put_hex;
 ghost use mathlib.Core.List.{_∷_, []};
 ghost use Prim.Native.Nat.{_+_, _≤_, _<_};
 ghost use lib.ListN.{length};

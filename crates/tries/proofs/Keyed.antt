@@ -11,8 +11,8 @@ use Rattle.ids.specs.Ids.{counterTag, valueTag, lamport}
 use Rattle.ids.specs.Counters.{remainingOf, failedOf, resetOf}
 use Rattle.codec.specs.declared.OptRaw.{OptRaw}
 use Rattle.bodies.specs.Bodies.{counterRecord, valueRecord}
-use Rattle.deciding.specs.Decisions.{refuse, give, write}
-use Rattle.deciding.proofs.Keyed.{Keyed, silent, keyed-write, keyed-pick}
+use Rattle.decisions.specs.Decisions.{refuse, give, write}
+use Rattle.decisions.proofs.Keyed.{Keyed, silent, keyed-write, keyed-pick}
 use Rattle.tries.specs.Tries.{startOf, spentBy, spendFrom, setDecision, lamportMax, advanceFrom}
 
 pub spend-keyed : (s : CounterState) (room : Bool) (credential : ℕ) → Keyed counterTag credential room (spendFrom s room credential)

@@ -15,14 +15,14 @@ use Rattle.codec.specs.declared.OptRaw.{OptRaw}
 use Rattle.bodies.specs.Bodies.{counterRecord, counterIn, valueRecord, valueIn}
 use Rattle.flash.specs.declared.Plan.{Plan}
 use Rattle.records.specs.declared.Log.{Log}
-use Rattle.deciding.specs.declared.Decision.{Decision}
-use Rattle.deciding.specs.Decisions.{refuse, give, write}
-use Rattle.reading.specs.declared.Counter.{Counter}
-use Rattle.reading.specs.declared.Counter.the-variants as counter
-use Rattle.reading.specs.declared.Told.{Told}
-use Rattle.reading.specs.Reads.{getOf, told, refusedTold}
-use Rattle.performing.specs.Outcomes.{Outcome, entered}
-use Rattle.performing.specs.Performing.{decided}
+use Rattle.decisions.specs.declared.Decision.{Decision}
+use Rattle.decisions.specs.Decisions.{refuse, give, write}
+use Rattle.reads.specs.declared.Counter.{Counter}
+use Rattle.reads.specs.declared.Counter.the-variants as counter
+use Rattle.reads.specs.declared.Told.{Told}
+use Rattle.reads.specs.Reads.{getOf, told, refusedTold}
+use Rattle.decisions.specs.Outcomes.{Outcome, entered}
+use Rattle.decisions.specs.Performing.{decided}
 use Rattle.tries.specs.declared.Left.{Left}
 use Rattle.tries.specs.declared.Left.the-variants.{Refused, Nothing, Tries}
 

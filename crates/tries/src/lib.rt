@@ -1,11 +1,21 @@
+// The applet's helpers: remaining, load, spend, set, and the Lamport clock.
 // The applet helpers that only read: tries left, and the tries that an applet starts with.
-// Those that write stand in spending and clock.
+
+pub mod spends; // The applet helpers that change a counter
+pub mod clock; // The Lamport clock
+
+pub use clock::advance_lamport;
+pub use clock::lamport;
+pub use spends::set;
+pub use spends::spend;
+
+// What stands here uses:
 use basics::Answer;
-use reading::Counter;
-use reading::Told;
+use reads::Counter;
+use reads::Told;
 use records::Log;
 ghost use mathlib.Core.Path.{_≡_};
-ghost use Rattle.reading.specs.Reads.{told as toldOf};
+ghost use Rattle.reads.specs.Reads.{told as toldOf};
 ghost use Rattle.tries.specs.Tries.{remainingLeft, loadOf};
 
 // The tries left of a credential, where a record of it is held.
@@ -18,7 +28,7 @@ pub enum Left {
 pub fn remaining(log: Log, credential: u8) -> Left
     ensures { λ r. ⌜ r ≡ remainingLeft log credential ⌝ }
 {
-    match getting::get(log, credential) {
+    match reads::get(log, credential) {
         Counter::Refused(answer) => Left::Refused(answer),
         Counter::Nothing => Left::Nothing,
         Counter::Held(s) => Left::Tries(s.remaining()),

@@ -17,14 +17,14 @@ use Rattle.records.specs.Table.{placeOf, holds, joined, falls, absorbed}
 use Rattle.scan.specs.Choosing.{bestFrom}
 use Rattle.scan.specs.Reading.{readFrom, headFrom}
 use Rattle.scan.specs.Opening.{scanOf, openOf}
-use Rattle.fitting.specs.Fitting.{allZeros, keysFit, logFits}
-use Rattle.writing.specs.Sectors.{writeRecords, writeSector}
-use Rattle.writing.specs.Commits.{commitFrom}
-use Rattle.writing.specs.Appends.{triesFrom, appendOf}
-use Rattle.reading.specs.Entering.{entryAnswer, heldOf, roomFor}
-use Rattle.seeding.specs.Seeds.{seeded, allKnown}
-use Rattle.performing.specs.Outcomes.{entered}
-use Rattle.performing.specs.Performing.{performed}
+use Rattle.records.specs.Fitting.{allZeros, keysFit, logFits}
+use Rattle.sectors.specs.Sectors.{writeRecords, writeSector}
+use Rattle.sectors.specs.Commits.{commitFrom}
+use Rattle.sectors.specs.Appends.{triesFrom, appendOf}
+use Rattle.reads.specs.Entering.{entryAnswer, heldOf, roomFor}
+use Rattle.decisions.specs.Seeds.{seeded, allKnown}
+use Rattle.decisions.specs.Outcomes.{entered}
+use Rattle.decisions.specs.Performing.{performed}
 use Rattle.log.specs.Calls.{formatOf}
 use Rattle.tries.specs.Tries.{startOf, spendFrom, spendOf, advanceFrom, advanceOf}
 use Rattle.demands.specs.Chance.{cutAt}

@@ -18,7 +18,7 @@ use Rattle.ids.specs.Counters.{remainingOf}
 use Rattle.records.specs.declared.Log.{Log}
 use Rattle.records.specs.Table.{placeOf, holds}
 use Rattle.scan.specs.Opening.{openOf}
-use Rattle.reading.specs.Entering.{heldOf}
+use Rattle.reads.specs.Entering.{heldOf}
 use Rattle.tries.specs.Tries.{startOf}
 use Rattle.demands.specs.Chance.{cutAt, ChanceMatch}
 use Rattle.demands.specs.Healthy.{healthy}

@@ -15,7 +15,7 @@ use Rattle.codec.specs.Slots.{headerSlot, crcUnder, slotOf}
 use Rattle.flash.specs.declared.Plan.{Plan}
 use Rattle.records.specs.declared.Log.{Log}
 use Rattle.records.specs.Table.{placeOf, holds}
-use Rattle.reading.specs.Entering.{heldOf}
+use Rattle.reads.specs.Entering.{heldOf}
 use Rattle.tries.specs.Tries.{startOf}
 use Rattle.demands.specs.Chance.{cutAt, ChanceMatch}
 use Rattle.demands.specs.Calls.{NoChance}

@@ -17,12 +17,12 @@ use Rattle.bodies.specs.Bodies.{anchorRecord}
 use Rattle.flash.specs.Image.{sectorsIn, slotAt, withSlot}
 use Rattle.flash.specs.Run.{program, landed}
 use Rattle.records.specs.Table.{holds, placeOf, joined}
-use Rattle.fitting.specs.Fitting.{logFits, allZeros, keysFit}
-use Rattle.writing.specs.Appends.{triesFrom, appendOf}
-use Rattle.deciding.specs.Decisions.{valueDecision}
-use Rattle.reading.specs.Entering.{entryAnswer, heldOf, roomFor}
-use Rattle.performing.specs.Outcomes.{entered}
-use Rattle.performing.specs.Performing.{performed}
+use Rattle.records.specs.Fitting.{logFits, allZeros, keysFit}
+use Rattle.sectors.specs.Appends.{triesFrom, appendOf}
+use Rattle.decisions.specs.Decisions.{valueDecision}
+use Rattle.reads.specs.Entering.{entryAnswer, heldOf, roomFor}
+use Rattle.decisions.specs.Outcomes.{entered}
+use Rattle.decisions.specs.Performing.{performed}
 use Rattle.log.specs.Calls.{putValueOf}
 use Rattle.worked.specs.Table.{Row, table}
 

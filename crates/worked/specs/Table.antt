@@ -17,7 +17,7 @@ use Rattle.flash.specs.declared.Plan.{Plan}
 use Rattle.records.specs.declared.State.the-variants.{Active}
 use Rattle.records.specs.declared.Log.{Log}
 use Rattle.records.specs.Logs.{logOf, recordsOf}
-use Rattle.performing.specs.Outcomes.{Outcome}
+use Rattle.decisions.specs.Outcomes.{Outcome}
 use Rattle.log.specs.Calls.{putValueOf}
 
 pub record Row : Type 0 where

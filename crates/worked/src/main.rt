@@ -2,14 +2,14 @@
 // hexadecimal, or a number; of each call its answer and value, the bytes it programmed and erased, the log that it
 // handed back, and the checksum of the image, which tells whether a byte changed.
 use codec::Raw;
+use decisions::Done;
+use decisions::Seed;
 use flash::Plan;
 use ids::Anchor;
 use ids::CounterState;
 use list::LONGEST;
-use performing::Done;
 use records::Log;
 use records::State;
-use seeding::Seed;
 
 fn byte(b: u8) {
     io::print_hex(1, b as u64, 2);
@@ -46,24 +46,24 @@ fn anchor(format_gen: u16, head_seq: u64, head_slot: u16) -> Anchor {
 }
 
 fn starred() {
-    slot_line(b"header 1: ", headers::encode_header(1));
+    slot_line(b"header 1: ", codec::encode_header(1));
     io::write_all(1, b"crc of 123456789: ");
     io::print_hex(1, crc::crc32(b"123456789") as u64, 8);
     io::write_all(1, b"\n");
     let pin = counter(3, 5, 4);
     slot_line(
         b"user pin 3, 5, 4: ",
-        slots::encode(counters::counter_record(1, pin), 1),
+        codec::encode(bodies::counter_record(1, pin), 1),
     );
     number_line(b"remaining: ", pin.remaining());
     slot_line(
         b"lamport 258: ",
-        slots::encode(values::value_record(ids::LAMPORT, 258), 1),
+        codec::encode(bodies::value_record(ids::LAMPORT, 258), 1),
     );
-    let fits = anchors::anchor_record(anchor(7, 281_474_976_710_655, 9));
+    let fits = bodies::anchor_record(anchor(7, 281_474_976_710_655, 9));
     let raw = fits.raw;
-    slot_line(b"anchor 7, 2^48 - 1, 9: ", slots::encode(raw, 1));
-    let above = anchors::anchor_record(anchor(7, 281_474_976_710_656, 9));
+    slot_line(b"anchor 7, 2^48 - 1, 9: ", codec::encode(raw, 1));
+    let above = bodies::anchor_record(anchor(7, 281_474_976_710_656, 9));
     let answer = above.answer;
     number_line(b"anchor 7, 2^48, 9: ", basics::number(answer));
     number_line(b"remaining of 3, 1, 2: ", counter(3, 1, 2).remaining());
@@ -149,7 +149,7 @@ fn crowded(head: u32) -> Log {
         };
     }
     let c = CounterState::fresh(3);
-    table[0] = counters::counter_record(1, c);
+    table[0] = bodies::counter_record(1, c);
     let state = State::Active {
         sector: 0,
         seq: 1,
@@ -181,35 +181,35 @@ fn user_pin() -> [Seed; 8] {
 fn full_table() {
     let mut image = [0xFFu8; 8192];
     let log = crowded(33);
-    let d = spending::spend(&mut image, log, calm(), 1, 0);
+    let d = tries::spend(&mut image, log, calm(), 1, 0);
     let log = call_line(b"32 keys, one of them spent: ", &image, d);
-    let d = spending::spend(&mut image, log, calm(), 2, 3);
+    let d = tries::spend(&mut image, log, calm(), 2, 3);
     let _ = call_line(b"32 keys, a new one: ", &image, d);
 }
 
 fn full_sector() {
     let mut image = [0xFFu8; 8192];
-    let d = spending::spend(&mut image, crowded(255), calm(), 1, 0);
+    let d = tries::spend(&mut image, crowded(255), calm(), 1, 0);
     let log = call_line(b"head 255: ", &image, d);
-    let d = spending::spend(&mut image, log, calm(), 1, 0);
+    let d = tries::spend(&mut image, log, calm(), 1, 0);
     let _ = call_line(b"head 256: ", &image, d);
 }
 
 fn refused_programs() {
     let mut image = [0xFFu8; 8192];
-    let d = spending::spend(&mut image, crowded(33), refusing(2), 1, 0);
+    let d = tries::spend(&mut image, crowded(33), refusing(2), 1, 0);
     let log = call_line(b"two refused programs: ", &image, d);
-    let d = spending::spend(&mut image, log, refusing(3), 1, 0);
+    let d = tries::spend(&mut image, log, refusing(3), 1, 0);
     let _ = call_line(b"three: ", &image, d);
 }
 
 fn one_spend() {
     let mut image = [0xFFu8; 8192];
-    let o = opening::open(&image);
+    let o = scan::open(&image);
     let blank = o.log;
-    let d = starting::format(&mut image, blank, calm(), user_pin(), 1);
+    let d = log::format(&mut image, blank, calm(), user_pin(), 1);
     let log = call_line(b"format: ", &image, d);
-    let d = spending::spend(&mut image, log, calm(), 1, 9);
+    let d = tries::spend(&mut image, log, calm(), 1, 9);
     let _ = call_line(b"spend: ", &image, d);
     listed(&image);
 }
@@ -218,25 +218,25 @@ fn one_spend() {
 fn turned_away() {
     let pin = CounterState::fresh(3);
     let mut short = [0xFFu8; 4095];
-    let d = putting::put(&mut short, crowded(33), calm(), 1, pin);
+    let d = log::put(&mut short, crowded(33), calm(), 1, pin);
     let _ = call_line(b"4,095 bytes: ", &short, d);
     let mut image = [0xFFu8; 8192];
-    let d = putting::put(&mut image, crowded(257), calm(), 1, pin);
+    let d = log::put(&mut image, crowded(257), calm(), 1, pin);
     let _ = call_line(b"head 257: ", &image, d);
-    let d = putting::put(&mut image, crowded(33), calm(), 9, pin);
+    let d = log::put(&mut image, crowded(33), calm(), 9, pin);
     let _ = call_line(b"credential 9: ", &image, d);
     let blank = records::empty(State::Unformatted, 1);
-    let d = putting::put(&mut image, blank, calm(), 1, pin);
+    let d = log::put(&mut image, blank, calm(), 1, pin);
     let _ = call_line(b"put, unformatted: ", &image, d);
     let failed = records::empty(State::Failed, 1);
-    let d = putting::put(&mut image, failed, calm(), 1, pin);
+    let d = log::put(&mut image, failed, calm(), 1, pin);
     let _ = call_line(b"put, failed: ", &image, d);
 }
 
 // One that gets each of 6, 7, 8 and 9, and what it leaves.
 fn refused() {
     let mut image = [0xFFu8; 8192];
-    let d = starting::format(&mut image, crowded(33), calm(), user_pin(), 1);
+    let d = log::format(&mut image, crowded(33), calm(), user_pin(), 1);
     let _ = call_line(b"format, active: ", &image, d);
     let erase_refused = Plan {
         limited: false,
@@ -245,13 +245,13 @@ fn refused() {
         refuse_programs: 0,
     };
     let blank = records::empty(State::Unformatted, 1);
-    let d = starting::format(&mut image, blank, erase_refused, user_pin(), 1);
+    let d = log::format(&mut image, blank, erase_refused, user_pin(), 1);
     let _ = call_line(b"format, erases refused: ", &image, d);
-    let d = putting::put_value(&mut image, crowded(33), calm(), 5, 4);
+    let d = log::put_value(&mut image, crowded(33), calm(), 5, 4);
     let _ = call_line(b"a 33rd key: ", &image, d);
-    let d = putting::put(&mut image, crowded(33), calm(), 1, counter(3, 2, 0));
+    let d = log::put(&mut image, crowded(33), calm(), 1, counter(3, 2, 0));
     let l = call_line(b"put of total 2: ", &image, d);
-    let d = putting::put(&mut image, l, calm(), 1, counter(3, 1, 0));
+    let d = log::put(&mut image, l, calm(), 1, counter(3, 1, 0));
     let _ = call_line(b"put of total 1 over it: ", &image, d);
 }
 

@@ -1,4 +1,4 @@
--- `host::advance_lamport` meets its contract: it calls `clock::advance_lamport`, and leaves in place the plan that comes of it.
+-- `host::advance_lamport` meets its contract: it calls `tries::clock::advance_lamport`, and leaves in place the plan that comes of it.
 use mathlib.Core.List.{List, [], _∷_}
 use Prim.Native.Nat.{ℕ}
 use mir.Syntax.{w64}
@@ -10,18 +10,18 @@ use denote.Triple.Table.{entered, cited}
 use Rattle.flash.specs.declared.Plan.{Plan}
 use Rattle.records.specs.declared.Log.{Log}
 use Rattle.tries.specs.Tries.{advanceOf}
-use Rattle.clock.proofs.advance_lamport.Symbol as callee
-use Rattle.clock.proofs.advance_lamport.Met as callee-met
+use Rattle.tries.proofs.clock.advance_lamport.Symbol as callee
+use Rattle.tries.proofs.clock.advance_lamport.Met as callee-met
 use Rattle.host.proofs.plan_after.Symbol as reader
 use Rattle.host.proofs.plan_after.Met as reader-met
 use Rattle.host.proofs.advance_lamport.Key as key
 use Rattle.host.proofs.advance_lamport as advance-lamport
 use Rattle.host.proofs.advance_lamport.Statement as stated
 use Rattle.host.proofs.advance_lamport.Code as code
-use Rattle.lending.proofs.InPlace.{Lending, Read}
-use Rattle.lending.proofs.Plain.{uint-single}
-use Rattle.lending.proofs.Lends.{Called}
-use Rattle.lending.proofs.OneMore.{meets}
+use Rattle.host.proofs.lent.InPlace.{Lending, Read}
+use Rattle.host.proofs.lent.Plain.{uint-single}
+use Rattle.host.proofs.lent.Lends.{Called}
+use Rattle.host.proofs.lent.OneMore.{meets}
 use Rattle.host.proofs.Calls.{done, log-call}
 
 abbrev Rs : List RattleType
@@ -36,5 +36,5 @@ advance-lamport-spec 𝓤 H 𝓜 𝓖 𝓡 =
     entered 𝓤 H (tripleOf 𝓤 H (𝓖 .A) advance-lamport.signature (advance-lamport.spec 𝓤 H (𝓖 .A) (𝓜 .mem) (𝓡 .run)))
     (tables 𝓤 H 𝓜 𝓡 code.env .C) (tables 𝓤 H 𝓜 𝓡 code.env .Λ) key.name code.function (code.unfolded 𝓤 H 𝓜 𝓡)
     (meets done u64 job 𝓤 H (𝓖 .A) (givenOf 𝓤 H 𝓜 𝓖) (tablesOf 𝓤 H 𝓜 (tables 𝓤 H 𝓜 𝓡 code.env))
-    (cited 𝓤 H (Called done Rs job 𝓤 H (𝓖 .A)) 𝓜 𝓡 code.env callee.name callee.routine code.calls-clock·advance-lamport (callee-met.met 𝓤 H 𝓜 𝓖 𝓡))
+    (cited 𝓤 H (Called done Rs job 𝓤 H (𝓖 .A)) 𝓜 𝓡 code.env callee.name callee.routine code.calls-tries·clock·advance-lamport (callee-met.met 𝓤 H 𝓜 𝓖 𝓡))
     (cited 𝓤 H (Read done 𝓤 H (𝓖 .A)) 𝓜 𝓡 code.env reader.name reader.routine code.calls-host·plan-after (reader-met.met 𝓤 H 𝓜 𝓖 𝓡)))

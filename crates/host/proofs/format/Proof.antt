@@ -1,4 +1,4 @@
--- `host::format` meets its contract: it calls `starting::format`, and leaves in place the plan that comes of it.
+-- `host::format` meets its contract: it calls `log::formats::format`, and leaves in place the plan that comes of it.
 use mathlib.Core.List.{List, [], _∷_}
 use Prim.Native.Nat.{ℕ}
 use mir.Syntax.{w64}
@@ -10,21 +10,21 @@ use denote.Triple.Spec.{tripleOf}
 use denote.Triple.Table.{entered, cited}
 use Rattle.flash.specs.declared.Plan.{Plan}
 use Rattle.records.specs.declared.Log.{Log}
-use Rattle.seeding.proofs.Seed as Seed
-use Rattle.seeding.proofs.Seed.Laws as Seed′
+use Rattle.decisions.proofs.seeds.Seed as Seed
+use Rattle.decisions.proofs.seeds.Seed.Laws as Seed′
 use Rattle.log.specs.Calls.{formatOf}
-use Rattle.starting.proofs.format.Symbol as callee
-use Rattle.starting.proofs.format.Met as callee-met
+use Rattle.log.proofs.formats.format.Symbol as callee
+use Rattle.log.proofs.formats.format.Met as callee-met
 use Rattle.host.proofs.plan_after.Symbol as reader
 use Rattle.host.proofs.plan_after.Met as reader-met
 use Rattle.host.proofs.format.Key as key
 use Rattle.host.proofs.format as format
 use Rattle.host.proofs.format.Statement as stated
 use Rattle.host.proofs.format.Code as code
-use Rattle.lending.proofs.InPlace.{Lending, Read}
-use Rattle.lending.proofs.Plain.{array-single, struct-single, uint-single}
-use Rattle.lending.proofs.Lends.{Called}
-use Rattle.lending.proofs.TwoMore.{meets}
+use Rattle.host.proofs.lent.InPlace.{Lending, Read}
+use Rattle.host.proofs.lent.Plain.{array-single, struct-single, uint-single}
+use Rattle.host.proofs.lent.Lends.{Called}
+use Rattle.host.proofs.lent.TwoMore.{meets}
 use Rattle.host.proofs.Calls.{done, log-call}
 
 abbrev Rs : List RattleType
@@ -39,5 +39,5 @@ format-spec 𝓤 H 𝓜 𝓖 𝓡 =
     entered 𝓤 H (tripleOf 𝓤 H (𝓖 .A) format.signature (format.spec 𝓤 H (𝓖 .A) (𝓜 .mem) (𝓡 .run)))
     (tables 𝓤 H 𝓜 𝓡 code.env .C) (tables 𝓤 H 𝓜 𝓡 code.env .Λ) key.name code.function (code.unfolded 𝓤 H 𝓜 𝓡)
     (meets done (Array Seed.the-row 8) usize job 𝓤 H (𝓖 .A) (givenOf 𝓤 H 𝓜 𝓖) (tablesOf 𝓤 H 𝓜 (tables 𝓤 H 𝓜 𝓡 code.env))
-    (cited 𝓤 H (Called done Rs job 𝓤 H (𝓖 .A)) 𝓜 𝓡 code.env callee.name callee.routine code.calls-starting·format (callee-met.met 𝓤 H 𝓜 𝓖 𝓡))
+    (cited 𝓤 H (Called done Rs job 𝓤 H (𝓖 .A)) 𝓜 𝓡 code.env callee.name callee.routine code.calls-log·formats·format (callee-met.met 𝓤 H 𝓜 𝓖 𝓡))
     (cited 𝓤 H (Read done 𝓤 H (𝓖 .A)) 𝓜 𝓡 code.env reader.name reader.routine code.calls-host·plan-after (reader-met.met 𝓤 H 𝓜 𝓖 𝓡)))

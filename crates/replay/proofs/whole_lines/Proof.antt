@@ -6,7 +6,7 @@ use lib.ListN.{length}
 use mir.Syntax.{w64}
 use mir.Val.{Fits}
 use borrow.Author.Needs.{needs}
-use Rattle.sessions.specs.Limits.{Sound}
+use Rattle.replay.specs.Limits.{Sound}
 use Rattle.replay.proofs.whole_lines.Statement.{statement}
 use Rattle.replay.proofs.whole_lines.Tie as tie
 

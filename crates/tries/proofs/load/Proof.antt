@@ -4,7 +4,7 @@ use mathlib.Core.Bool.{Bool}
 use lib.Dec.{leb}
 use borrow.Author.Tests.{le-leb, lt-leb}
 use Rattle.basics.specs.Choice.{pick}
-use Rattle.reading.specs.Reads.{told, refusedTold}
+use Rattle.reads.specs.Reads.{told, refusedTold}
 use Rattle.tries.specs.declared.Left.{Left}
 use Rattle.tries.specs.Tries.{loadBy, loadOf}
 use borrow.Author.Needs.{needs}

@@ -1,2 +1,0 @@
--- What is promised of the numbers of a line.
-pub mod Limits

@@ -1,2 +1,0 @@
--- What a PIN attempt comes to.
-pub mod Attempts

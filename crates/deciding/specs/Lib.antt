@@ -1,2 +1,0 @@
--- What put, put_value and put_anchor decide.
-pub mod Decisions

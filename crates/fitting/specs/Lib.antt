@@ -1,3 +1,0 @@
--- The BadLog test, and what a look over a log finds.
-pub mod Fitting
-pub mod Steps

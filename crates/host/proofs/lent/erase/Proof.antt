@@ -1,0 +1,36 @@
+-- `host::lent::erase` meets its contract: it calls `host::lent::erase_by_value`, and leaves in place the plan that comes of it.
+use mathlib.Core.List.{List, []}
+use Prim.Native.Nat.{ℕ}
+use contract.Running.{givenOf, tables, tablesOf}
+use denote.RattleType.{RattleType, Denots}
+use denote.Triple.Spec.{tripleOf}
+use denote.Triple.Table.{entered, cited}
+use Rattle.flash.specs.declared.Plan.{Plan}
+use Rattle.host.specs.LentFlash.{eraseOf}
+use Rattle.host.proofs.lent.erase_by_value.Symbol as callee
+use Rattle.host.proofs.lent.erase_by_value.Met as callee-met
+use Rattle.host.proofs.lent.plan_left.Symbol as reader
+use Rattle.host.proofs.lent.plan_left.Met as reader-met
+use Rattle.host.proofs.lent.erase.Key as key
+use Rattle.host.proofs.lent.erase as erase
+use Rattle.host.proofs.lent.erase.Statement as stated
+use Rattle.host.proofs.lent.erase.Code as code
+use Rattle.host.proofs.lent.InPlace.{Lending, Read}
+use Rattle.host.proofs.lent.Lends.{Called}
+use Rattle.host.proofs.lent.NoneMore.{meets}
+use Rattle.host.proofs.lent.Steps.{step, sector-call}
+
+abbrev Rs : List RattleType
+Rs = []
+
+abbrev job : Lending step Rs
+job = sector-call Rs tt callee.name (λ (ys : List ℕ) (sector : ℕ) (h : Plan) (t : Denots Rs). eraseOf ys sector h)
+
+pub erase-spec : {M : Type 1} → stated.statement M
+unfolding code.routine tablesOf
+erase-spec 𝓤 H 𝓜 𝓖 𝓡 =
+    entered 𝓤 H (tripleOf 𝓤 H (𝓖 .A) erase.signature (erase.spec 𝓤 H (𝓖 .A) (𝓜 .mem) (𝓡 .run)))
+    (tables 𝓤 H 𝓜 𝓡 code.env .C) (tables 𝓤 H 𝓜 𝓡 code.env .Λ) key.name code.function (code.unfolded 𝓤 H 𝓜 𝓡)
+    (meets step job 𝓤 H (𝓖 .A) (givenOf 𝓤 H 𝓜 𝓖) (tablesOf 𝓤 H 𝓜 (tables 𝓤 H 𝓜 𝓡 code.env))
+    (cited 𝓤 H (Called step Rs job 𝓤 H (𝓖 .A)) 𝓜 𝓡 code.env callee.name callee.routine code.calls-host·lent·erase-by-value (callee-met.met 𝓤 H 𝓜 𝓖 𝓡))
+    (cited 𝓤 H (Read step 𝓤 H (𝓖 .A)) 𝓜 𝓡 code.env reader.name reader.routine code.calls-host·lent·plan-left (reader-met.met 𝓤 H 𝓜 𝓖 𝓡)))

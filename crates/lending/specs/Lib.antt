@@ -1,2 +1,0 @@
--- What a step on a lent plan comes to.
-pub mod Lent

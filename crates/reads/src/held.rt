@@ -1,0 +1,97 @@
+// The calls that read one record of the log. They take no image, so the sector must be below 16.
+use crate::Anchored;
+use crate::Counter;
+use crate::Number;
+use basics::Answer;
+use records::Log;
+use records::State;
+ghost use mathlib.Core.Path.{_≡_};
+ghost use Rattle.reads.specs.Reads.{getOf, valueOf, anchorOf};
+
+pub fn get(log: Log, credential: u8) -> Counter
+    ensures { λ r. ⌜ r ≡ getOf log credential ⌝ }
+{
+    let e = crate::enter(
+        log,
+        crate::MOST,
+        ids::is_credential(credential),
+        ids::COUNTER_TAG,
+        credential,
+    );
+    let answer = e.answer;
+    if !basics::is_done(answer) {
+        return Counter::Refused(answer);
+    }
+    let state = log.state;
+    let held = e.held;
+    match state {
+        State::Unformatted => Counter::Refused(Answer::NotFormatted),
+        State::Failed => Counter::Refused(Answer::ReadError),
+        State::Active {
+            sector: _,
+            seq: _,
+            head: _,
+        } => {
+            if !held.some {
+                return Counter::Nothing;
+            }
+            let raw = held.raw;
+            Counter::Held(bodies::counter_of(raw))
+        }
+    }
+}
+
+pub fn value(log: Log, id: u8) -> Number
+    ensures { λ r. ⌜ r ≡ valueOf log id ⌝ }
+{
+    let e = crate::enter(log, crate::MOST, ids::is_value(id), ids::VALUE_TAG, id);
+    let answer = e.answer;
+    if !basics::is_done(answer) {
+        return Number::Refused(answer);
+    }
+    let state = log.state;
+    let held = e.held;
+    match state {
+        State::Unformatted => Number::Refused(Answer::NotFormatted),
+        State::Failed => Number::Refused(Answer::ReadError),
+        State::Active {
+            sector: _,
+            seq: _,
+            head: _,
+        } => {
+            if !held.some {
+                return Number::Nothing;
+            }
+            let raw = held.raw;
+            Number::Held(bodies::value_of(raw))
+        }
+    }
+}
+
+// A log that was never formatted has no anchor, and that is no refusal.
+pub fn anchor(log: Log) -> Anchored
+    ensures { λ r. ⌜ r ≡ anchorOf log ⌝ }
+{
+    let e = crate::enter(log, crate::MOST, true, ids::ANCHOR_TAG, 0);
+    let answer = e.answer;
+    if !basics::is_done(answer) {
+        return Anchored::Refused(answer);
+    }
+    let state = log.state;
+    let held = e.held;
+    match state {
+        State::Unformatted => Anchored::Nothing,
+        State::Failed => Anchored::Refused(Answer::ReadError),
+        State::Active {
+            sector: _,
+            seq: _,
+            head: _,
+        } => {
+            if !held.some {
+                return Anchored::Nothing;
+            }
+            let raw = held.raw;
+            Anchored::Held(bodies::anchor_of(raw))
+        }
+    }
+}

@@ -1,0 +1,251 @@
+// The calls that can write: each reads its numbers from the line, calls the library, and says what it answered.
+// A line that isn't the call or can't be read has `ok` false.
+use basics::Answer;
+use decisions::Done;
+use decisions::Seed;
+use flash::Plan;
+use ids::Anchor;
+use ids::CounterState;
+use records::Log;
+use script::MAX_8;
+use script::MAX_16;
+use script::MAX_32;
+use script::MAX_64;
+use script::Numbers;
+use script::board::Value;
+ghost use mathlib.Core.List.{_∷_, []};
+ghost use Prim.Native.Nat.{_≤_};
+ghost use lib.ListN.{length};
+ghost use Rattle.script.specs.Limits.{Within};
+
+// What a call on an image answered.
+pub struct Work {
+    pub ok: bool,
+    pub value: Value,
+    pub done: Done,
+}
+
+// The calls that can write.
+enum Call {
+    Put,
+    PutValue,
+    PutAnchor,
+    Format,
+    Spend,
+    Set,
+    AdvanceLamport,
+    Other,
+}
+
+// The seeds on a line.
+struct Seeds {
+    ok: bool,
+    seeds: [Seed; 8],
+}
+
+fn unwritten(log: Log, plan: Plan) -> Work {
+    let done = Done {
+        answer: Answer::Done,
+        value: 0,
+        programmed: 0,
+        erased: 0,
+        plan: plan,
+        log: log,
+    };
+    Work {
+        ok: false,
+        value: Value::Dash,
+        done: done,
+    }
+}
+
+fn quiet(done: Done) -> Work {
+    Work {
+        ok: true,
+        value: Value::Dash,
+        done: done,
+    }
+}
+
+fn telling(done: Done) -> Work {
+    Work {
+        ok: true,
+        value: Value::One(done.value),
+        done: done,
+    }
+}
+
+fn put(line: &[u8], e: usize, image: &mut [u8], log: Log, plan: Plan) -> Work {
+    let n = script::all_numbers(line, e, [MAX_8, MAX_8, MAX_32, MAX_32], 4);
+    if !n.ok {
+        return unwritten(log, plan);
+    }
+    let x = n.x;
+    let new = CounterState {
+        total: x[2] as u32,
+        at_reset: x[3] as u32,
+        allowance: x[1] as u8,
+    };
+    quiet(log::put(image, log, plan, x[0] as u8, new))
+}
+
+fn put_value(line: &[u8], e: usize, image: &mut [u8], log: Log, plan: Plan) -> Work {
+    let n = script::all_numbers(line, e, [MAX_8, MAX_64, 0, 0], 2);
+    if !n.ok {
+        return unwritten(log, plan);
+    }
+    let x = n.x;
+    quiet(log::put_value(image, log, plan, x[0] as u8, x[1]))
+}
+
+fn put_anchor(line: &[u8], e: usize, image: &mut [u8], log: Log, plan: Plan) -> Work {
+    let n = script::all_numbers(line, e, [MAX_16, MAX_64, MAX_16, 0], 3);
+    if !n.ok {
+        return unwritten(log, plan);
+    }
+    let x = n.x;
+    let new = Anchor {
+        format_gen: x[0] as u16,
+        head_seq: x[1],
+        head_slot: x[2] as u16,
+    };
+    quiet(log::put_anchor(image, log, plan, new))
+}
+
+fn no_seed() -> Seed {
+    let c = CounterState::fresh(0);
+    Seed {
+        credential: 0,
+        state: c,
+    }
+}
+
+fn seed_of(n: Numbers) -> Seed
+    requires { ⌜ Within (n .x) (255 ∷ 255 ∷ 4294967295 ∷ 4294967295 ∷ []) ⌝ }
+{
+    let x = n.x;
+    let c = CounterState {
+        total: x[2] as u32,
+        at_reset: x[3] as u32,
+        allowance: x[1] as u8,
+    };
+    Seed {
+        credential: x[0] as u8,
+        state: c,
+    }
+}
+
+// Seeds up to the line's end; places not written are zeros.
+fn seeds_at(line: &[u8], at: usize) -> Seeds {
+    let z = no_seed();
+    let mut seeds = [z; 8];
+    let mut from = at;
+    let mut i: usize = 0;
+    while i < 8 {
+        if line.len() <= from {
+            return Seeds {
+                ok: true,
+                seeds: seeds,
+            };
+        }
+        let n = script::some_numbers(line, from, [MAX_8, MAX_8, MAX_32, MAX_32], 4);
+        if !n.ok {
+            return Seeds {
+                ok: false,
+                seeds: seeds,
+            };
+        }
+        let s = seed_of(n);
+        seeds[i] = s;
+        from = n.next;
+        i += 1;
+    }
+    Seeds {
+        ok: line.len() <= from,
+        seeds: seeds,
+    }
+}
+
+fn format(line: &[u8], e: usize, image: &mut [u8], log: Log, plan: Plan) -> Work {
+    let n = script::some_numbers(line, e, [MAX_64, 0, 0, 0], 1);
+    let s = seeds_at(line, n.next);
+    if !n.ok {
+        return unwritten(log, plan);
+    }
+    if !s.ok {
+        return unwritten(log, plan);
+    }
+    let x = n.x;
+    let seeds = s.seeds;
+    quiet(log::format(image, log, plan, seeds, x[0] as usize))
+}
+
+fn spend(line: &[u8], e: usize, image: &mut [u8], log: Log, plan: Plan) -> Work {
+    let n = script::all_numbers(line, e, [MAX_8, MAX_8, 0, 0], 2);
+    if !n.ok {
+        return unwritten(log, plan);
+    }
+    let x = n.x;
+    telling(tries::spend(image, log, plan, x[0] as u8, x[1] as u8))
+}
+
+fn set(line: &[u8], e: usize, image: &mut [u8], log: Log, plan: Plan) -> Work {
+    let n = script::all_numbers(line, e, [MAX_8, MAX_8, 0, 0], 2);
+    if !n.ok {
+        return unwritten(log, plan);
+    }
+    let x = n.x;
+    quiet(tries::set(image, log, plan, x[0] as u8, x[1] as u8))
+}
+
+fn advance_lamport(line: &[u8], e: usize, image: &mut [u8], log: Log, plan: Plan) -> Work {
+    let n = script::all_numbers(line, e, [MAX_64, 0, 0, 0], 1);
+    if !n.ok {
+        return unwritten(log, plan);
+    }
+    let x = n.x;
+    telling(tries::advance_lamport(image, log, plan, x[0]))
+}
+
+// Which call a word names.
+fn call_of(word: &[u8]) -> Call {
+    if script::is_same(word, b"put") {
+        return Call::Put;
+    }
+    if script::is_same(word, b"put_value") {
+        return Call::PutValue;
+    }
+    if script::is_same(word, b"put_anchor") {
+        return Call::PutAnchor;
+    }
+    if script::is_same(word, b"format") {
+        return Call::Format;
+    }
+    if script::is_same(word, b"spend") {
+        return Call::Spend;
+    }
+    if script::is_same(word, b"set") {
+        return Call::Set;
+    }
+    if script::is_same(word, b"advance_lamport") {
+        return Call::AdvanceLamport;
+    }
+    Call::Other
+}
+
+// A line whose first word ends at `e`, if it is a call that can write.
+pub fn write(line: &[u8], e: usize, image: &mut [u8], log: Log, plan: Plan) -> Work
+    requires { ⌜ e ≤ length (now line) ⌝ }
+{
+    let call = call_of(&line[0..e]);
+    match call {
+        Call::Put => put(line, e, image, log, plan),
+        Call::PutValue => put_value(line, e, image, log, plan),
+        Call::PutAnchor => put_anchor(line, e, image, log, plan),
+        Call::Format => format(line, e, image, log, plan),
+        Call::Spend => spend(line, e, image, log, plan),
+        Call::Set => set(line, e, image, log, plan),
+        Call::AdvanceLamport => advance_lamport(line, e, image, log, plan),
+        Call::Other => unwritten(log, plan),
+    }
+}

@@ -1,0 +1,100 @@
+-- `sectors::appends::append` meets its contract.
+use mathlib.Core.Path.{_≡_, refl, ap}
+use mathlib.Core.Bool.{Bool, true}
+use mathlib.Core.List.{List}
+use Prim.Native.Nat.{_≤_}
+use native.Mathlib.Omega.{arith}
+use lib.ListN.{take}
+use Rattle.basics.specs.declared.Answer.the-variants.{WriteError}
+use Rattle.codec.specs.declared.Raw.{Raw}
+use Rattle.codec.specs.Slots.{slotOf}
+use Rattle.flash.specs.Run.{Flash}
+use Rattle.sectors.specs.Appends.{Tried, triesFrom}
+use Rattle.sectors.specs.Shown.{flashWith}
+use Rattle.sectors.proofs.Showing.{tries-are}
+use Rattle.sectors.proofs.Stepping.{after-within, append-full, append-tried}
+use Rattle.sectors.proofs.Costs.{tries-within}
+use borrow.Author.Needs.{needs}
+use Rattle.sectors.proofs.appends.append.Statement.{statement}
+use Rattle.sectors.proofs.appends.append.Tie as tie
+
+abbrev start-of : tie.After-try-slots → tie.Start
+start-of t = t .before .before .before .before
+
+abbrev flash-of : tie.After-try-slots → Bool → Flash
+flash-of t cut = flashWith (start-of t .args .image .now) (start-of t .args .used) cut
+
+abbrev records-of : tie.After-try-slots → List Raw
+records-of t = take (start-of t .args .count) (start-of t .args .table)
+
+abbrev trying : tie.After-try-slots → Bool → Tried
+trying t cut = let a = start-of t .args in triesFrom 3 (a .sector) (a .head) (slotOf (a .seq) (a .«record»)) WriteError (flash-of t cut)
+
+-- what the tries showed
+abbrev shown-of : tie.After-try-slots → Bool → Tried
+shown-of t cut = record { full = t .try-slots .result .full; answer = t .try-slots .result .answer; head = t .try-slots .result .head; flash = flashWith (t .try-slots .last .0) (t .try-slots .result .used) (trying t cut .flash .cut) }
+
+tried-is : (t : tie.After-try-slots) (cut : Bool) → trying t cut ≡ shown-of t cut
+tried-is t cut = tries-are (trying t cut) (t .try-slots .result) (t .try-slots .last .0) (rw (t .before .encode .ensures) at (t .try-slots .ensures cut))
+
+cheap : (t : tie.After-try-slots) → (t .try-slots .result .used .programmed ≤ 304) × (t .try-slots .result .used .erased ≤ 65536)
+cheap t =
+    let a = start-of t .args in
+    let most = tries-within 3 (a .sector) (a .head) (slotOf (a .seq) (a .«record»)) WriteError (flash-of t true) in (
+      omega (arith, most .programmed, start-of t .pre .5, ap (λ (o : Tried). o .flash .programmed) (tried-is t true)),
+      omega (arith, most .erased, start-of t .pre .6, ap (λ (o : Tried). o .flash .erased) (tried-is t true)),
+    )
+
+encode-requires : tie.Need-encode-requires
+encode-requires c κs = search needs
+
+try-slots-requires : tie.Need-try-slots-requires
+try-slots-requires c κs = search needs
+
+cast-t19 : tie.Need-cast-t19
+cast-t19 c = search needs
+
+after-requires : tie.Need-after-requires
+after-requires c κs = search needs
+
+commit-requires : tie.Need-commit-requires
+commit-requires c κs =
+    let t = c .before .before .before .before .before .before in
+    let a = start-of t .args in
+    let p = start-of t .pre in
+    (p .0, p .1, rw (t .try-slots .kept .0) (p .2), rw (c .before .after .ensures) (after-within (a .sectors) (a .sector) (p .3)), cheap t .0, cheap t .1)
+
+same-length : tie.Need-same-length
+same-length c = search needs
+
+returns : tie.Need-returns
+returns c = λ cut.
+    let q = c .before .before in
+    let t = q .before .before .before .before .before .before .before in
+    let a = start-of t .args in
+    rw (append-full (a .sectors) (a .sector) (a .seq) (a .head) (a .next-seq) (a .«record») (records-of t) (flash-of t cut) (shown-of t cut) (tried-is t cut) (q .before .before .before .if1 .taken))
+    (rw (q .before .before .after .ensures) at (q .commit .ensures (trying t cut .flash .cut)))
+
+same-length-2 : tie.Need-same-length-2
+same-length-2 c = search needs
+
+returns-2 : tie.Need-returns-2
+returns-2 c = λ cut.
+    let t = c .before .before .before .before in
+    let a = start-of t .args in
+    rw (append-tried (a .sectors) (a .sector) (a .seq) (a .head) (a .next-seq) (a .«record») (records-of t) (flash-of t cut) (shown-of t cut) (tried-is t cut) (c .if1 .left))
+    (record { shown = refl; left = refl })
+
+pub append-spec : {M : Type 1} → statement M
+append-spec =
+    tie.close
+    (tie.spec
+    encode-requires
+    try-slots-requires
+    cast-t19
+    after-requires
+    commit-requires
+    same-length
+    returns
+    same-length-2
+    returns-2)

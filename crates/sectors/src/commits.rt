@@ -1,0 +1,86 @@
+// A commit: the table of records written to a new sector, in turn from a first one,
+// until one takes it.
+use crate::Used;
+use crate::Wrote;
+use crate::rewrites;
+use basics::Answer;
+use codec::Raw;
+use records::LIMIT;
+use records::State;
+ghost use mathlib.Core.Path.{_≡_};
+ghost use mathlib.Core.Bool.{Bool};
+ghost use Prim.Native.Nat.{_*_, _≤_, _<_};
+ghost use lib.ListN.{length, take};
+ghost use Rattle.basics.specs.declared.Answer.the-variants.{WriteError};
+ghost use Rattle.sectors.specs.Commits.{after as afterSector, commitFrom};
+ghost use Rattle.sectors.specs.Shown.{flashWith, Writes};
+
+// The sector after s, round from the last to 0.
+pub fn after(sectors: usize, s: usize) -> usize
+    requires { ⌜ s < 65536 ⌝ }
+    ensures { λ r. ⌜ r ≡ afterSector sectors s ⌝ }
+{
+    if s + 1 == sectors { 0 } else { s + 1 }
+}
+
+// Commit a table to the first sector that takes it, from `first` on and round, `avoid` skipped.
+pub fn commit(
+    image: &mut [u8],
+    sectors: usize,
+    avoid: usize,
+    first: usize,
+    state: State,
+    next_seq: u32,
+    table: [Raw; LIMIT],
+    count: usize,
+    used: Used,
+) -> Wrote
+    requires { ⌜ (count ≤ 32) × (sectors ≤ 16) × (sectors * 4096 ≤ length (now image)) × (first < sectors) × (used .programmed ≤ 304) × (used .erased ≤ 65536) ⌝ }
+    ensures { λ r. ⌜ Writes (λ (cut : Bool). commitFrom sectors sectors avoid first (take count table) WriteError state «next_seq» (flashWith (now (image .entry)) used cut)) r (now (image .exit)) ⌝ }
+{
+    let mut answer = Answer::WriteError;
+    let mut next = next_seq;
+    let mut u = used;
+    let mut s = first;
+    let mut left = sectors;
+    while 0 < left {
+        let here = s;
+        s = after(sectors, s);
+        left -= 1;
+        if here == avoid {
+            continue;
+        }
+        if next == 4294967295 {
+            return Wrote {
+                answer: Answer::WriteError,
+                state: state,
+                next_seq: next,
+                used: u,
+            };
+        }
+        let w = rewrites::write_sector(image, here, next, table, count, u);
+        let seq = next;
+        next = seq + 1;
+        u = w.used;
+        answer = w.answer;
+        if basics::is_done(answer) {
+            let active = State::Active {
+                sector: here as u32,
+                seq: seq,
+                head: count as u32 + 1,
+            };
+            return Wrote {
+                answer: Answer::Done,
+                state: active,
+                next_seq: next,
+                used: u,
+            };
+        }
+    }
+    Wrote {
+        answer: answer,
+        state: state,
+        next_seq: next,
+        used: u,
+    }
+}

@@ -1,0 +1,67 @@
+// A sector written anew: erased and checked, the records from slot 1 on, and the header last.
+use crate::Step;
+use crate::Used;
+use basics::Answer;
+use codec::Raw;
+use records::LIMIT;
+ghost use mathlib.Core.Bool.{Bool};
+ghost use Prim.Native.Nat.{_+_, _*_, _≤_, _<_};
+ghost use lib.ListN.{length, take};
+ghost use Rattle.sectors.specs.Sectors.{writeRecords, writeSector};
+ghost use Rattle.sectors.specs.Shown.{flashWith, Steps};
+
+// The records, in slots from 1 on.
+fn write_records(
+    image: &mut [u8],
+    sector: usize,
+    seq: u32,
+    table: [Raw; LIMIT],
+    count: usize,
+    used: Used,
+) -> Step
+    requires { ⌜ (count ≤ 32) × (sector * 4096 + 4096 ≤ length (now image)) × (used .programmed ≤ 20000) ⌝ }
+    ensures { λ r. ⌜ Steps (λ (cut : Bool). writeRecords sector seq 1 (take count table) (flashWith (now (image .entry)) used cut)) r (now (image .exit)) ⌝ }
+{
+    let start = codec::under(seq);
+    let mut u = used;
+    let mut i: usize = 0;
+    while i < count {
+        let r = table[i];
+        let s = crate::program(image, sector, i + 1, codec::encode_from(r, start), u);
+        let answer = s.answer;
+        if !basics::is_done(answer) {
+            return s;
+        }
+        u = s.used;
+        i += 1;
+    }
+    Step {
+        answer: Answer::Done,
+        used: u,
+    }
+}
+
+// A sector with these records.
+pub fn write_sector(
+    image: &mut [u8],
+    sector: usize,
+    seq: u32,
+    table: [Raw; LIMIT],
+    count: usize,
+    used: Used,
+) -> Step
+    requires { ⌜ (count ≤ 32) × (sector * 4096 + 4096 ≤ length (now image)) × (used .programmed ≤ 19000) × (used .erased < 131073) ⌝ }
+    ensures { λ r. ⌜ Steps (λ (cut : Bool). writeSector sector seq (take count table) (flashWith (now (image .entry)) used cut)) r (now (image .exit)) ⌝ }
+{
+    let e = crate::erase(image, sector, used);
+    let erased = e.answer;
+    if !basics::is_done(erased) {
+        return e;
+    }
+    let w = write_records(image, sector, seq, table, count, e.used);
+    let written = w.answer;
+    if !basics::is_done(written) {
+        return w;
+    }
+    crate::program(image, sector, 0, codec::encode_header(seq), w.used)
+}

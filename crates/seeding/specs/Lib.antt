@@ -1,2 +1,0 @@
--- The seeds of a format.
-pub mod Seeds

@@ -1,0 +1,81 @@
+-- `tries::spends::spend` meets its contract.
+use mathlib.Core.Path.{_≡_, ap, ap₂, _∙_}
+use mathlib.Core.Bool.{Bool}
+use Prim.Native.Nat.{ℕ}
+use lib.ListN.{length}
+use Rattle.ids.specs.declared.CounterState.{CounterState}
+use Rattle.ids.specs.Ids.{counterTag, isCredential}
+use Rattle.codec.specs.declared.OptRaw.{OptRaw}
+use Rattle.flash.specs.Image.{sectorsIn}
+use Rattle.records.proofs.fitting.Owned.{whole-log}
+use Rattle.reads.specs.Entering.{entryOf}
+use Rattle.decisions.proofs.outcomes.Calling.{call-ready, call-meets}
+use Rattle.tries.specs.Tries.{spendOf}
+use Rattle.tries.specs.Tries.{startOf, spendDecision, spendFrom}
+use Rattle.tries.proofs.Keyed.{spend-keyed}
+use borrow.Author.Needs.{needs}
+use Rattle.tries.proofs.spends.spend.Statement.{statement}
+use Rattle.tries.proofs.spends.spend.Tie as tie
+
+abbrev start-of : tie.After-enter → tie.Start
+start-of e = e .before .before .before .before
+
+-- what the call found
+is-entry : (e : tie.After-enter) → let a = start-of e .args in e .enter .result ≡ entryOf (sectorsIn (length (a .image .now))) (a .log) (isCredential (a .credential)) counterTag (a .credential)
+is-entry e = let a = start-of e .args in e .enter .ensures ∙ ap₂ (λ (n : ℕ) (known : Bool). entryOf n (a .log) known counterTag (a .credential)) (e .before .before .sectors .ensures) (e .before .is-credential .ensures)
+
+sectors-requires : tie.Need-sectors-requires
+sectors-requires c κs = search needs
+
+is-credential-requires : tie.Need-is-credential-requires
+is-credential-requires c κs = search needs
+
+enter-requires : tie.Need-enter-requires
+enter-requires c κs = search needs
+
+start-requires : tie.Need-start-requires
+start-requires c κs = search needs
+
+spend-from-requires : tie.Need-spend-from-requires
+spend-from-requires c κs = search needs
+
+unused-requires : tie.Need-unused-requires
+unused-requires c κs = search needs
+
+perform-requires : tie.Need-perform-requires
+perform-requires c κs =
+    let d = c .before .before in
+    let e = d .before .before .before in
+    let s = start-of e in
+    let a = s .args in
+    let x = e .enter .result in
+    call-ready (a .image .now) (a .log) (a .plan) (isCredential (a .credential)) counterTag (a .credential) x (is-entry e) (λ (held : OptRaw) (room : Bool). spendDecision held room (a .credential) (a .current)) (e .before .before .sectors .result) (c .unused .result) (d .spend-from .result)
+    (e .before .before .sectors .ensures) (c .unused .ensures) (d .spend-from .ensures ∙ ap (λ (s : CounterState). spendFrom s (e .enter .result .room) (a .credential)) (d .before .start .ensures)) (whole-log (a .log) (s .good .1 .0)) (spend-keyed (startOf (x .held) (a .current)) (x .room) (a .credential))
+
+same-length : tie.Need-same-length
+same-length c = search needs
+
+returns : tie.Need-returns
+unfolding spendOf
+returns c =
+    let p = c .before .before in
+    let u = p .before in
+    let d = u .before .before in
+    let e = d .before .before .before in
+    let a = start-of e .args in
+    call-meets (a .image .now) (a .log) (a .plan) (isCredential (a .credential)) counterTag (a .credential) (e .enter .result) (is-entry e) (λ (held : OptRaw) (room : Bool). spendDecision held room (a .credential) (a .current)) (e .before .before .sectors .result) (u .unused .result) (d .spend-from .result)
+    (e .before .before .sectors .ensures) (u .unused .ensures) (d .spend-from .ensures ∙ ap (λ (s : CounterState). spendFrom s (e .enter .result .room) (a .credential)) (d .before .start .ensures)) (p .perform .result) (p .perform .last .0) (p .perform .ensures)
+
+pub spend-spec : {M : Type 1} → statement M
+spend-spec =
+    tie.close
+    (tie.spec
+    sectors-requires
+    is-credential-requires
+    enter-requires
+    start-requires
+    spend-from-requires
+    unused-requires
+    perform-requires
+    same-length
+    returns)
