@@ -1,5 +1,5 @@
 -- The laws of the shared words, one file each.
-pub mod Choice
-pub mod Lists
-pub mod Splice
-pub mod Little
+pub mod ChoiceLaws
+pub mod ListsLaws
+pub mod ListsSplice
+pub mod LittleLaws

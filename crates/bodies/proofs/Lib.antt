@@ -1,3 +1,3 @@
 -- Laws of bodies: fields read one by one, and the round trips of counters, values and anchors.
-pub mod Fields
-pub mod RoundTrip
+pub mod BodiesFields
+pub mod BodiesRoundTrip

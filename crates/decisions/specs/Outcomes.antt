@@ -32,7 +32,7 @@ doneOf o =
     }
 
 -- an answer and an image that show this outcome
-pub record Meets (o : Outcome) (r : Done) (image : List ℕ) : Type 0 where
+pub record ShowsDone (o : Outcome) (r : Done) (image : List ℕ) : Type 0 where
   pub answered : r ≡ doneOf o
   pub left : image ≡ o .flash .image
 

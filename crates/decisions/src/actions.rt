@@ -15,7 +15,7 @@ ghost use lib.ListN.{length};
 ghost use Rattle.records.specs.declared.State.the-variants.{Active};
 ghost use Rattle.sectors.specs.Shown.{flashWith};
 ghost use Rattle.decisions.specs.Performing.{appended};
-ghost use Rattle.decisions.specs.PerformingSteps.{Shows, Room, Placed, Ready, performedOn};
+ghost use Rattle.decisions.specs.Ready.{Shows, FitToWrite, Placed, Ready, performedOn};
 
 // Append a record whose key has its place at `at`, and answer with this value.
 fn write_record(
@@ -30,8 +30,8 @@ fn write_record(
     rec: Raw,
     value: u64,
 ) -> Done
-    requires { ⌜ Room (length (now image)) sectors log used × (log .state ≡ Active sector seq head) × Placed log at rec ⌝ }
-    ensures { λ r. ⌜ Shows (λ (cut : Bool). appended (Active sector seq head) sectors rec value log (flashWith (now (image .entry)) used cut)) r (now (image .exit)) ⌝ }
+    requires { ⌜ FitToWrite (length (now image)) sectors log used × (log .state ≡ Active sector seq head) × Placed log at rec ⌝ }
+    ensures { λ r. ⌜ (cut : Bool) → ShowsDone (appended (Active sector seq head) sectors rec value log (flashWith (now (image .entry)) used cut)) r (now (image .exit)) ⌝ }
 {
     let count = records::new_count(log.count, at);
     let mut table = log.table;
@@ -61,7 +61,7 @@ pub fn perform(
     decision: Decision,
 ) -> Done
     requires { ⌜ Ready (length (now image)) sectors log used entry decision ⌝ }
-    ensures { λ r. ⌜ Shows (λ (cut : Bool). performedOn entry decision sectors log (flashWith (now (image .entry)) used cut)) r (now (image .exit)) ⌝ }
+    ensures { λ r. ⌜ (cut : Bool) → ShowsDone (performedOn entry decision sectors log (flashWith (now (image .entry)) used cut)) r (now (image .exit)) ⌝ }
 {
     let answer = entry.answer;
     if !basics::is_done(answer) {

@@ -13,7 +13,7 @@ ghost use lib.ListN.{length, take};
 ghost use Rattle.records.specs.declared.State.the-variants.{Unformatted};
 ghost use Rattle.sectors.specs.Shown.{flashWith};
 ghost use Rattle.decisions.specs.Performing.{formatted};
-ghost use Rattle.decisions.specs.PerformingSteps.{Shows, Room, Filled};
+ghost use Rattle.decisions.specs.Ready.{Shows, FitToWrite, Filled};
 
 // Format a log that was never formatted with the first `count` records of a table.
 pub fn format_with(
@@ -24,8 +24,8 @@ pub fn format_with(
     table: [Raw; LIMIT],
     count: usize,
 ) -> Done
-    requires { ⌜ Room (length (now image)) sectors log used × (log .state ≡ Unformatted) × (0 < sectors) × Filled table count ⌝ }
-    ensures { λ r. ⌜ Shows (λ (cut : Bool). formatted (take count table) sectors log (flashWith (now (image .entry)) used cut)) r (now (image .exit)) ⌝ }
+    requires { ⌜ FitToWrite (length (now image)) sectors log used × (log .state ≡ Unformatted) × (0 < sectors) × Filled table count ⌝ }
+    ensures { λ r. ⌜ (cut : Bool) → ShowsDone (formatted (take count table) sectors log (flashWith (now (image .entry)) used cut)) r (now (image .exit)) ⌝ }
 {
     let state = log.state;
     let w = sectors::commit(

@@ -8,7 +8,7 @@ use records::Log;
 use sectors::Used;
 use sectors::Wrote;
 ghost use mathlib.Core.Path.{_≡_};
-ghost use Rattle.decisions.specs.PerformingSteps.{answeredOf, finishedOf};
+ghost use Rattle.decisions.specs.Ready.{answeredOf, finishedOf};
 
 // What a call on an image answers, and the log and plan that it hands back.
 pub struct Done {

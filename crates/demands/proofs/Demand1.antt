@@ -11,26 +11,26 @@ use Rattle.basics.specs.Lists.{same}
 use Rattle.basics.specs.Answers.{numberOf, isDone}
 use Rattle.basics.specs.declared.Answer.{Answer}
 use Rattle.basics.specs.declared.Answer.the-variants.{Done, BadImage, BadLog, BadId, NotFormatted, ReadError, WriteError}
-use Rattle.basics.proofs.Choice.{by-test}
+use Rattle.basics.proofs.ChoiceLaws.{by-test}
 use Rattle.codec.specs.declared.Raw.{Raw}
 use Rattle.codec.specs.Slots.{slotOf, headerSlot}
 use Rattle.flash.specs.declared.Plan.{Plan}
 use Rattle.flash.specs.Image.{sectorsIn}
 use Rattle.flash.specs.Run.{Flash, Stepped, program, erase}
-use Rattle.flash.proofs.Steps.{Programmed, program-refused, program-stopped, program-whole, program-outcome, Erased, erase-refused, erase-stopped, erase-whole, erase-outcome}
+use Rattle.flash.proofs.RunLaws.{Programmed, program-refused, program-stopped, program-whole, program-outcome, Erased, erase-refused, erase-stopped, erase-whole, erase-outcome}
 use Rattle.records.specs.declared.State.{State}
 use Rattle.records.specs.declared.State.the-variants.{Unformatted, Active, Failed}
 use Rattle.records.specs.declared.Log.{Log}
 use Rattle.records.specs.Fitting.{logFits}
 use Rattle.sectors.specs.Sectors.{onDone, writeRecords, writeSector}
-use Rattle.sectors.specs.Commits.{Wrote, after, commitFrom}
-use Rattle.sectors.specs.Appends.{Tried, triesFrom, appendOf}
+use Rattle.sectors.specs.Commits.{Written, sectorAfter, commitFrom}
+use Rattle.sectors.specs.Appends.{SlotTries, triesFrom, appendOf}
 use Rattle.reads.specs.Entering.{entryAnswer, heldOf, roomFor}
 use Rattle.reads.specs.declared.Counter.the-variants as counter
 use Rattle.reads.specs.declared.Number.the-variants as number
 use Rattle.reads.specs.declared.Anchored.the-variants as anchored
-use Rattle.reads.proofs.Entering.{answer-no-image, answer-bad-log, answer-bad-id, answer-done, turned-away, taken-in}
-use Rattle.reads.specs.Reads.{counterBy, getOf, numberBy, valueOf, anchorBy, anchorOf, told, refusedTold, lamportBy, migrationBy, needsMigrationOf}
+use Rattle.reads.proofs.EnteringLaws.{answer-no-image, answer-bad-log, answer-bad-id, answer-done, turned-away, taken-in}
+use Rattle.reads.specs.Reads.{counterBy, getOf, numberBy, valueOf, anchorBy, anchorOf, toldOf, toldRefused, lamportBy, migrationBy, needsMigrationOf}
 use Rattle.decisions.specs.Outcomes.{Outcome, flashOf, refused, entered}
 use Rattle.ids.specs.declared.Anchor.{Anchor}
 use Rattle.ids.specs.Ids.{counterTag, valueTag, anchorTag, lamport as lamportId, isCredential, isValue}
@@ -42,69 +42,69 @@ use Rattle.decisions.specs.Decisions.{whenActive}
 use Rattle.decisions.specs.Seeds.{seedsKnown, seedTable}
 use Rattle.decisions.specs.Performing.{performed, decided, formatted}
 use Rattle.log.specs.Calls.{isFirst, anchoredFirst, anchored as anchoredOn, formatOn, putAnchorOf, formatOf}
-use Rattle.tries.specs.Tries.{remainingIn, loadBy}
+use Rattle.tries.specs.Tries.{triesLeftBy, loadBy}
 use Rattle.demands.specs.Calls.{Call, outcomeOf}
 use Rattle.demands.specs.Demand1.{leavesAll, knownIn, byState, stateAnswer, Refuses, Asked, get, get-value, remaining, anchor, lamport, needs-migration, load, replyOf, turnedAway, knownTo, stateReply, RefusesAsked, RefusesImage}
-use Rattle.demands.proofs.Courses.{Course, refusal, given, appends, formats, anchors, call-course}
-use Rattle.demands.proofs.Shapes.{Shape, by-kind}
+use Rattle.demands.proofs.CallsCourses.{Course, refusal, given, appends, formats, anchors, call-course}
+use Rattle.demands.proofs.CallsShapes.{Shape, by-kind}
 
 -- ---- a write answers 0, 6 or 7
-abbrev Writes : Answer → Type 0
-Writes a = leavesAll a ≡ false
+abbrev FromFlash : Answer → Type 0
+FromFlash a = leavesAll a ≡ false
 
-program-answers : (s k : ℕ) (new : List ℕ) (f : Flash) → Writes (program s k new f .answer)
+program-answers : (s k : ℕ) (new : List ℕ) (f : Flash) → FromFlash (program s k new f .answer)
 program-answers s k new f = go (program-outcome s k new f)
   where
-    go : {o : Stepped} → Programmed s k new f o → Writes (o .answer)
+    go : {o : Stepped} → Programmed s k new f o → FromFlash (o .answer)
     go (program-refused h) = refl
     go (program-stopped e h) = refl
-    go (program-whole e h) = by-test Writes (same _ new) Done WriteError (λ _. refl) (λ _. refl)
+    go (program-whole e h) = by-test FromFlash (same _ new) Done WriteError (λ _. refl) (λ _. refl)
 
-erase-answers : (s : ℕ) (f : Flash) → Writes (erase s f .answer)
+erase-answers : (s : ℕ) (f : Flash) → FromFlash (erase s f .answer)
 erase-answers s f = go (erase-outcome s f)
   where
-    go : {o : Stepped} → Erased s f o → Writes (o .answer)
+    go : {o : Stepped} → Erased s f o → FromFlash (o .answer)
     go (erase-refused h) = refl
     go (erase-stopped e h) = refl
     go (erase-whole e h) = refl
 
-records-answers : (s seq k : ℕ) (t : List Raw) (f : Flash) → Writes (writeRecords s seq k t f .answer)
+records-answers : (s seq k : ℕ) (t : List Raw) (f : Flash) → FromFlash (writeRecords s seq k t f .answer)
 unfolding writeRecords
 records-answers s seq k [] f = refl
 records-answers s seq k (r ∷ t) f =
-    by-test (λ (o : Stepped). Writes (o .answer)) (isDone (program s k (slotOf seq r) f .answer)) _ _ (λ _. records-answers s seq (suc k) t (program s k (slotOf seq r) f .flash)) (λ _. program-answers s k (slotOf seq r) f)
+    by-test (λ (o : Stepped). FromFlash (o .answer)) (isDone (program s k (slotOf seq r) f .answer)) _ _ (λ _. records-answers s seq (suc k) t (program s k (slotOf seq r) f .flash)) (λ _. program-answers s k (slotOf seq r) f)
 
-done-answers : (o : Stepped) (next : Flash → Stepped) → Writes (o .answer) → ((g : Flash) → Writes (next g .answer)) → Writes (onDone o next .answer)
-done-answers o next a b = by-test (λ (x : Stepped). Writes (x .answer)) (isDone (o .answer)) (next (o .flash)) o (λ _. b (o .flash)) (λ _. a)
+done-answers : (o : Stepped) (next : Flash → Stepped) → FromFlash (o .answer) → ((g : Flash) → FromFlash (next g .answer)) → FromFlash (onDone o next .answer)
+done-answers o next a b = by-test (λ (x : Stepped). FromFlash (x .answer)) (isDone (o .answer)) (next (o .flash)) o (λ _. b (o .flash)) (λ _. a)
 
-sector-answers : (s seq : ℕ) (t : List Raw) (f : Flash) → Writes (writeSector s seq t f .answer)
+sector-answers : (s seq : ℕ) (t : List Raw) (f : Flash) → FromFlash (writeSector s seq t f .answer)
 unfolding writeSector
 sector-answers s seq t f =
     done-answers (erase s f) (λ (g : Flash). onDone (writeRecords s seq 1 t g) (λ (h : Flash). program s 0 (headerSlot seq) h)) (erase-answers s f)
     (λ g. done-answers (writeRecords s seq 1 t g) (λ (h : Flash). program s 0 (headerSlot seq) h) (records-answers s seq 1 t g) (λ h. program-answers s 0 (headerSlot seq) h))
 
-commit-answers : (m n a s : ℕ) (t : List Raw) (last : Answer) (state : State) (next : ℕ) (f : Flash) → Writes last → Writes (commitFrom m n a s t last state next f .answer)
+commit-answers : (m n a s : ℕ) (t : List Raw) (last : Answer) (state : State) (next : ℕ) (f : Flash) → FromFlash last → FromFlash (commitFrom m n a s t last state next f .answer)
 unfolding commitFrom
 commit-answers zero n a s t last state next f h = h
 commit-answers (suc m) n a s t last state next f h =
-    by-test (λ (w : Wrote). Writes (w .answer)) (eqb s a) _ _ (λ _. commit-answers m n a (after n s) t last state next f h)
-    (λ _. by-test (λ (w : Wrote). Writes (w .answer)) (eqb next 4294967295) _ _ (λ _. refl)
-    (λ _. by-test (λ (w : Wrote). Writes (w .answer)) (isDone (writeSector s next t f .answer)) _ _ (λ _. refl)
-    (λ _. commit-answers m n a (after n s) t (writeSector s next t f .answer) state (next + 1) (writeSector s next t f .flash) (sector-answers s next t f))))
+    by-test (λ (w : Written). FromFlash (w .answer)) (eqb s a) _ _ (λ _. commit-answers m n a (sectorAfter n s) t last state next f h)
+    (λ _. by-test (λ (w : Written). FromFlash (w .answer)) (eqb next 4294967295) _ _ (λ _. refl)
+    (λ _. by-test (λ (w : Written). FromFlash (w .answer)) (isDone (writeSector s next t f .answer)) _ _ (λ _. refl)
+    (λ _. commit-answers m n a (sectorAfter n s) t (writeSector s next t f .answer) state (next + 1) (writeSector s next t f .flash) (sector-answers s next t f))))
 
-tries-answers : (m s head : ℕ) (bytes : List ℕ) (last : Answer) (f : Flash) → Writes last → Writes (triesFrom m s head bytes last f .answer)
+tries-answers : (m s head : ℕ) (bytes : List ℕ) (last : Answer) (f : Flash) → FromFlash last → FromFlash (triesFrom m s head bytes last f .answer)
 unfolding triesFrom
 tries-answers zero s head bytes last f h = h
 tries-answers (suc m) s head bytes last f h =
-    by-test (λ (o : Tried). Writes (o .answer)) (eqb head 256) _ _ (λ _. h)
-    (λ _. by-test (λ (o : Tried). Writes (o .answer)) (isDone (program s head bytes f .answer)) _ _ (λ _. refl)
+    by-test (λ (o : SlotTries). FromFlash (o .answer)) (eqb head 256) _ _ (λ _. h)
+    (λ _. by-test (λ (o : SlotTries). FromFlash (o .answer)) (isDone (program s head bytes f .answer)) _ _ (λ _. refl)
     (λ _. tries-answers m s (head + 1) bytes (program s head bytes f .answer) (program s head bytes f .flash) (program-answers s head bytes f)))
 
-append-answers : (n s seq head next : ℕ) (r : Raw) (t : List Raw) (f : Flash) → Writes (appendOf n s seq head next r t f .answer)
+append-answers : (n s seq head next : ℕ) (r : Raw) (t : List Raw) (f : Flash) → FromFlash (appendOf n s seq head next r t f .answer)
 unfolding appendOf
 append-answers n s seq head next r t f =
-    by-test (λ (w : Wrote). Writes (w .answer)) (triesFrom 3 s head (slotOf seq r) WriteError f .full) _ _
-    (λ _. commit-answers n n s (after n s) t WriteError (Active s seq (triesFrom 3 s head (slotOf seq r) WriteError f .head)) next (triesFrom 3 s head (slotOf seq r) WriteError f .flash) refl)
+    by-test (λ (w : Written). FromFlash (w .answer)) (triesFrom 3 s head (slotOf seq r) WriteError f .full) _ _
+    (λ _. commit-answers n n s (sectorAfter n s) t WriteError (Active s seq (triesFrom 3 s head (slotOf seq r) WriteError f .head)) next (triesFrom 3 s head (slotOf seq r) WriteError f .flash) refl)
     (λ _. tries-answers 3 s head (slotOf seq r) WriteError f refl)
 
 -- ---- the calls that can write
@@ -190,13 +190,13 @@ module _ (log : Log) where
   unfolding getOf valueOf anchorOf needsMigrationOf
   asked-refused (get credential) a e d low = turned-away counterBy counter.Refused log (isCredential credential) counterTag credential a e d
   asked-refused (get-value id) a e d low = turned-away numberBy number.Refused log (isValue id) valueTag id a e d
-  asked-refused (remaining credential) a e d low = ap remainingIn (turned-away counterBy counter.Refused log (isCredential credential) counterTag credential a e d)
+  asked-refused (remaining credential) a e d low = ap triesLeftBy (turned-away counterBy counter.Refused log (isCredential credential) counterTag credential a e d)
   asked-refused anchor a e d low = turned-away anchorBy anchored.Refused log true anchorTag 0 a e d
   asked-refused lamport a e d low = ap lamportBy (turned-away numberBy number.Refused log true valueTag lamportId a e d)
-  asked-refused needs-migration a e d low = turned-away migrationBy refusedTold log true anchorTag 0 a e d
+  asked-refused needs-migration a e d low = turned-away migrationBy toldRefused log true anchorTag 0 a e d
   asked-refused (load credential exists fresh) a e d low =
-      ap (loadBy exists fresh) (ap remainingIn (turned-away counterBy counter.Refused log (isCredential credential) counterTag credential a e d))
-      ∙ ap (λ (b : Bool). pick b (told 0) (refusedTold a)) low
+      ap (loadBy exists fresh) (ap triesLeftBy (turned-away counterBy counter.Refused log (isCredential credential) counterTag credential a e d))
+      ∙ ap (λ (b : Bool). pick b (toldOf 0) (toldRefused a)) low
 
   by-counter : (z : State) (held : OptRaw) → isDone (byState NotFormatted ReadError Done z) ≡ false → counterBy z held ≡ counter.Refused (byState NotFormatted ReadError Done z)
   by-counter Unformatted held e = refl
@@ -217,7 +217,7 @@ module _ (log : Log) where
   unfolding getOf valueOf anchorOf needsMigrationOf
   asked-not-ready (get credential) e d = taken-in counterBy counter.Refused log (isCredential credential) counterTag credential e ∙ by-counter (log .state) _ d
   asked-not-ready (get-value id) e d = taken-in numberBy number.Refused log (isValue id) valueTag id e ∙ by-number (log .state) _ d
-  asked-not-ready (remaining credential) e d = ap remainingIn (taken-in counterBy counter.Refused log (isCredential credential) counterTag credential e ∙ by-counter (log .state) _ d)
+  asked-not-ready (remaining credential) e d = ap triesLeftBy (taken-in counterBy counter.Refused log (isCredential credential) counterTag credential e ∙ by-counter (log .state) _ d)
   asked-not-ready anchor e d = taken-in anchorBy anchored.Refused log true anchorTag 0 e ∙ by-anchor (log .state) _ d
   asked-not-ready lamport e d = ap lamportBy (taken-in numberBy number.Refused log true valueTag lamportId e ∙ by-number (log .state) _ d)
   asked-not-ready needs-migration e d = absurd (false≢true (sym d))

@@ -10,15 +10,15 @@ use lib.Pow.{areBytes}
 use Rattle.flash.specs.Image.{sectorsIn}
 use Rattle.scan.specs.Opening.{openOf}
 use Rattle.decisions.specs.Outcomes.{Outcome}
-use Rattle.demands.specs.Shown.{Seen, seen, Table, tableIn, tableOf}
+use Rattle.demands.specs.Seen.{Seen, seen, Table, tableIn, tableOf}
 use Rattle.records.specs.Logs.{recordsOf}
 use Rattle.demands.specs.Chance.{Unmatched}
-use Rattle.demands.specs.Calls.{Typed, tableAfter, Left, recordOf, appendsTo}
+use Rattle.demands.specs.Calls.{Typed, tableAfter, NoEffect, recordOf, appendsTo}
 use Rattle.demands.specs.Sessions.{World, opened, Made, outcome, afterwards, played, AllTyped, Lasts}
 use Rattle.demands.specs.Demand3.{FindsAgain, WakesWith}
 use Rattle.demands.proofs.Invariant.{Inv, inv-open, open-inv}
-use Rattle.demands.proofs.Performing.{WakesUp, SafeCall, lasted, stopped}
-use Rattle.demands.proofs.Calls.{call-safe}
+use Rattle.demands.proofs.SafePerforming.{WakesUp, SafeCall, lasted, stopped}
+use Rattle.demands.proofs.SafeCalls.{call-safe}
 
 abbrev pub Agree : World → Type 0
 Agree w = Inv (w .image) (w .log)
@@ -33,7 +33,7 @@ unfolding played AllTyped Lasts
 played-agrees [] w i typed lasts = i
 played-agrees (m ∷ ms) w i typed lasts =
     played-agrees ms (afterwards (outcome m w))
-    (safe-agrees (sectorsIn (length (w .image))) (Unmatched (appendsTo (m .call) (w .image) (w .log) (m .plan)) (recordOf (m .call) (recordsOf (w .log)))) (Left (m .call) (w .log)) (tableAfter (m .call) (w .image) (w .log)) (outcome m w) (lasts .0)
+    (safe-agrees (sectorsIn (length (w .image))) (Unmatched (appendsTo (m .call) (w .image) (w .log) (m .plan)) (recordOf (m .call) (recordsOf (w .log)))) (NoEffect (m .call) (w .log)) (tableAfter (m .call) (w .image) (w .log)) (outcome m w) (lasts .0)
     (call-safe (w .image) (w .log) i (m .call) (typed .0) (m .plan)))
     (typed .1) (lasts .1)
 
@@ -41,7 +41,7 @@ agrees-finds : (w : World) → Agree w → FindsAgain w
 agrees-finds w i = let found = inv-open (w .image) (w .log) i in record { same = found .0; head = found .1 }
 
 -- ---- one call more
-safe-wakes : (w : World) (m : Made) → SafeCall (sectorsIn (length (w .image))) (Unmatched (appendsTo (m .call) (w .image) (w .log) (m .plan)) (recordOf (m .call) (recordsOf (w .log)))) (Left (m .call) (w .log)) (tableAfter (m .call) (w .image) (w .log)) (outcome m w) → WakesWith w m
+safe-wakes : (w : World) (m : Made) → SafeCall (sectorsIn (length (w .image))) (Unmatched (appendsTo (m .call) (w .image) (w .log) (m .plan)) (recordOf (m .call) (recordsOf (w .log)))) (NoEffect (m .call) (w .log)) (tableAfter (m .call) (w .image) (w .log)) (outcome m w) → WakesWith w m
 safe-wakes w m (lasted on z i (inl d)) =
     let found = inv-open (outcome m w .flash .image) (outcome m w .log) i .0 in
     record {
@@ -52,7 +52,7 @@ safe-wakes w m (lasted on z i (inl d)) =
 safe-wakes w m (lasted on z i (inr d)) =
     let found = inv-open (outcome m w .flash .image) (outcome m w .log) i .0 in
     record {
-      either = λ _. inl (subst (Left (m .call) (w .log)) (sym found) (d .1));
+      either = λ _. inl (subst (NoEffect (m .call) (w .log)) (sym found) (d .1));
       success = λ e. absurd (false≢true (sym (d .0) ∙ e));
       cut-fails = λ _. d .0;
     }
@@ -63,16 +63,16 @@ safe-wakes w m (stopped c k wakes) =
       cut-fails = λ _. k;
     }
   where
-    go : WakesUp (Left (m .call) (w .log)) (tableAfter (m .call) (w .image) (w .log)) (outcome m w .flash .image)
-        → Left (m .call) (w .log) (seen (openOf (outcome m w .flash .image) .log)) ⊎ (tableOf (openOf (outcome m w .flash .image) .log) ≡ tableAfter (m .call) (w .image) (w .log))
+    go : WakesUp (NoEffect (m .call) (w .log)) (tableAfter (m .call) (w .image) (w .log)) (outcome m w .flash .image)
+        → NoEffect (m .call) (w .log) (seen (openOf (outcome m w .flash .image) .log)) ⊎ (tableOf (openOf (outcome m w .flash .image) .log) ≡ tableAfter (m .call) (w .image) (w .log))
     go u = shown (u .shows)
       where
         found : seen (openOf (outcome m w .flash .image) .log) ≡ seen (u .log)
         found = inv-open (outcome m w .flash .image) (u .log) (u .inv) .0
 
-        shown : Left (m .call) (w .log) (seen (u .log)) ⊎ (tableOf (u .log) ≡ tableAfter (m .call) (w .image) (w .log))
-            → Left (m .call) (w .log) (seen (openOf (outcome m w .flash .image) .log)) ⊎ (tableOf (openOf (outcome m w .flash .image) .log) ≡ tableAfter (m .call) (w .image) (w .log))
-        shown (inl a) = inl (subst (Left (m .call) (w .log)) (sym found) a)
+        shown : NoEffect (m .call) (w .log) (seen (u .log)) ⊎ (tableOf (u .log) ≡ tableAfter (m .call) (w .image) (w .log))
+            → NoEffect (m .call) (w .log) (seen (openOf (outcome m w .flash .image) .log)) ⊎ (tableOf (openOf (outcome m w .flash .image) .log) ≡ tableAfter (m .call) (w .image) (w .log))
+        shown (inl a) = inl (subst (NoEffect (m .call) (w .log)) (sym found) a)
         shown (inr a) = inr (ap tableIn found ∙ a)
 
 -- ---- the demand

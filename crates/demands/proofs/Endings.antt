@@ -11,8 +11,8 @@ use Rattle.basics.specs.Answers.{isDone}
 use Rattle.basics.specs.declared.Answer.{Answer}
 use Rattle.flash.specs.Image.{slotAt, sectorAt, withSlot, withSector}
 use Rattle.flash.specs.Run.{Flash, Stepped, blanked, program, erase}
-use Rattle.flash.proofs.Charging.{Short}
-use Rattle.flash.proofs.Steps.{Programmed, program-refused, program-stopped, program-whole, program-outcome, blank-lands, found-done, Erased, erase-refused, erase-stopped, erase-whole, erase-outcome, Dead, program-dead, erase-dead}
+use Rattle.flash.proofs.PowerLaws.{Short}
+use Rattle.flash.proofs.RunLaws.{Programmed, program-refused, program-stopped, program-whole, program-outcome, blank-lands, found-done, Erased, erase-refused, erase-stopped, erase-whole, erase-outcome, Dead, program-dead, erase-dead}
 use Rattle.demands.specs.Chance.{cutAt}
 use Rattle.demands.specs.Healthy.{Healthy}
 use Rattle.demands.proofs.Torn.{landed-cut}

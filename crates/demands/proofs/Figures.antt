@@ -28,12 +28,12 @@ use Rattle.demands.specs.Figures.{Reports, decisionOf, WritesWell, Forma
 use Rattle.demands.specs.Demand1.{knownIn}
 use Rattle.demands.proofs.Tables.{Writable}
 use Rattle.demands.proofs.Invariant.{Agrees, Inv, inv-fits}
-use Rattle.demands.proofs.Performing.{writes-writable}
-use Rattle.demands.proofs.Succeeding.{Succeeds, performed-appends, performed-rotates, formatted-succeeds}
-use Rattle.demands.proofs.Deciding.{anchor-sound}
-use Rattle.demands.proofs.Calls.{seeds-proper}
+use Rattle.demands.proofs.SafePerforming.{writes-writable}
+use Rattle.demands.proofs.FiguresSucceeding.{Succeeds, performed-appends, performed-rotates, formatted-succeeds}
+use Rattle.demands.proofs.CallsDeciding.{anchor-sound}
+use Rattle.demands.proofs.SafeCalls.{seeds-proper}
 use Rattle.demands.proofs.Demand1.{entered-on}
-use Rattle.demands.proofs.Shapes.{Shape, by-kind}
+use Rattle.demands.proofs.CallsShapes.{Shape, by-kind}
 
 module _ (image : List ℕ) (log : Log) (i : Inv image log) where
   abbrev n : ℕ

@@ -10,31 +10,31 @@ use lib.ListN.{length, replicate}
 use lib.Pow.{areBytes}
 use borrow.Author.Tests.{eq-eqb, ne-eqb, eqb-true, eqb-false, leb-true, leb-false}
 use Rattle.basics.specs.Lists.{allAre}
-use Rattle.basics.proofs.Lists.{all-replicate, all-eq}
+use Rattle.basics.proofs.ListsLaws.{all-replicate, all-eq}
 use Rattle.basics.specs.declared.Answer.the-variants.{Done}
 use Rattle.codec.specs.declared.Raw.{Raw}
 use Rattle.codec.specs.declared.Header.the-variants.{Invalid}
-use Rattle.codec.proofs.Laws.{erased-none}
+use Rattle.codec.proofs.SlotsLaws.{erased-none}
 use Rattle.codec.specs.Slots.{decoded, none}
 use Rattle.flash.specs.Image.{sectorsIn, slotAt}
-use Rattle.flash.proofs.Geometry.{sectors-whole}
-use Rattle.flash.proofs.View.{slot-length, slot-bytes}
+use Rattle.flash.proofs.ImageSectors.{sectors-whole}
+use Rattle.flash.proofs.ImageView.{slot-length, slot-bytes}
 use Rattle.records.specs.declared.State.{State}
 use Rattle.records.specs.declared.State.the-variants.{Unformatted, Failed, Active}
 use Rattle.records.specs.declared.Log.{Log}
 use Rattle.records.specs.Logs.{logOf, recordsOf}
-use Rattle.records.proofs.Places.{places-take}
+use Rattle.records.proofs.LogsPlaces.{places-take}
 use Rattle.scan.specs.declared.Chosen.{Chosen}
 use Rattle.scan.specs.declared.Chosen.the-variants.{Sector, Nothing}
 use Rattle.scan.specs.declared.Opened.{Opened}
 use Rattle.scan.specs.Choosing.{headerAt, chosenOf, Wins}
 use Rattle.scan.specs.Reading.{Read, tooMany, these, readFrom, recordsIn, headIn}
 use Rattle.scan.specs.Opening.{regionRead, regionChosen, scanOf, nextOf, logFrom, openOf}
-use Rattle.scan.proofs.Winning.{Right, chosen-right, winner-chosen, none-chosen}
-use Rattle.scan.proofs.Viewing.{head-right}
+use Rattle.scan.proofs.ChoosingWinner.{Right, chosen-right, winner-chosen, none-chosen}
+use Rattle.scan.proofs.OpeningView.{head-right}
 use Rattle.records.specs.Fitting.{seqMax, stateFits, logFits}
-use Rattle.records.proofs.fitting.Laws.{Placed, placed-state, log-fits}
-use Rattle.demands.specs.Shown.{active, seenBy, seen, headOf}
+use Rattle.records.proofs.FittingLaws.{Placed, placed-state, log-fits}
+use Rattle.demands.specs.Seen.{active, seenBy, seen, headOf}
 use Rattle.demands.proofs.Tables.{Proper, proper-none, ProperRead, read-proper, read-on, read-quiet}
 
 -- ---- the invariant

@@ -12,17 +12,17 @@ use borrow.Author.Tests.{eqb-true}
 use Rattle.basics.specs.Choice.{pick}
 use Rattle.basics.specs.Answers.{isDone}
 use Rattle.basics.specs.declared.Answer.{Answer}
-use Rattle.basics.proofs.Choice.{first, second, by-test}
+use Rattle.basics.proofs.ChoiceLaws.{first, second, by-test}
 use Rattle.ids.specs.declared.CounterState.{CounterState}
 use Rattle.ids.specs.declared.Anchor.{Anchor}
 use Rattle.ids.specs.Ids.{counterTag, valueTag, anchorTag, lamport, isCredential}
 use Rattle.ids.specs.Counters.{freshOf, remainingOf, oneMore, resetOf}
-use Rattle.ids.proofs.Laws.{remaining-reset, failure-takes-one}
+use Rattle.ids.proofs.IdsLaws.{remaining-reset, failure-takes-one}
 use Rattle.codec.specs.declared.Raw.{Raw}
 use Rattle.codec.specs.declared.OptRaw.{OptRaw}
 use Rattle.codec.specs.Slots.{some}
 use Rattle.bodies.specs.Bodies.{counterRecord, counterIn, valueRecord, anchorBody, anchorRecord}
-use Rattle.bodies.proofs.RoundTrip.{counter-read}
+use Rattle.bodies.proofs.BodiesRoundTrip.{counter-read}
 use Rattle.flash.specs.declared.Plan.{Plan}
 use Rattle.flash.specs.Image.{sectorsIn}
 use Rattle.flash.specs.Run.{Flash}
@@ -42,20 +42,20 @@ use Rattle.decisions.specs.Performing.{decided}
 use Rattle.log.specs.Calls.{anchorCall, anchored, putAnchorOf, formatOn, formatOf}
 use Rattle.tries.specs.Tries.{startOf, spendDecision, setDecision, setOf, seenOf}
 use Rattle.demands.specs.Chance.{Unmatched}
-use Rattle.demands.specs.Shown.{seen, Table, holding, tableIn, tableOf}
+use Rattle.demands.specs.Seen.{seen, Table, holding, tableIn, tableOf}
 use Rattle.demands.specs.Typed.{TypedAnchor}
 use Rattle.demands.specs.Calls.{Call, put, put-value, put-anchor, format, spend, set-tries, advance-lamport, outcomeOf, Typed, recordOf, anchorTo, appendsTo}
 use Rattle.demands.specs.Sessions.{World, opened, Made, outcome, afterwards, played, AllTyped, Lasts}
 use Rattle.demands.specs.Figures.{decisionOf}
-use Rattle.demands.specs.PulledStick.{woken, Lucky, Remain, Has, setting, KeepsSet, sets, begun, LeavesTries, NoneSets, begunIn, Between, Finds, KeepsCount}
+use Rattle.demands.specs.PulledStick.{woken, Lucky, Remain, Has, aSet, KeepsSet, sets, begun, LeavesTries, NoneSets, begunIn, Between, Finds, KeepsCount}
 use Rattle.demands.proofs.Invariant.{Found, Inv, inv-open, open-inv}
-use Rattle.demands.proofs.Performing.{Always, WakesUp, SafeCall, lasted, stopped, refusal-safe, decidedTable}
-use Rattle.demands.proofs.Deciding.{Decided, refuses, gives, writes, Sound, put-decided, value-decided, held-blank, anchor-decided, anchor-sound}
-use Rattle.demands.proofs.Trying.{spend-decided, set-decided, advance-decided, set-sound}
-use Rattle.demands.proofs.Calls.{keyed-decided}
+use Rattle.demands.proofs.SafePerforming.{Always, WakesUp, SafeCall, lasted, stopped, refusal-safe, decidedTable}
+use Rattle.demands.proofs.CallsDeciding.{Decided, refuses, gives, writes, Sound, put-decided, value-decided, held-blank, anchor-decided, anchor-sound}
+use Rattle.demands.proofs.CallsTrying.{spend-decided, set-decided, advance-decided, set-sound}
+use Rattle.demands.proofs.SafeCalls.{keyed-decided}
 use Rattle.demands.proofs.Demand3.{Agree, played-agrees}
-use Rattle.demands.proofs.Spends.{join-held, join-other, recordsIn, shown-records, spend-writes, keyed-answered}
-use Rattle.demands.proofs.Shapes.{Shape, by-kind}
+use Rattle.demands.proofs.PulledStickSpends.{join-held, join-other, recordsIn, shown-records, spend-writes, keyed-answered}
+use Rattle.demands.proofs.CallsShapes.{Shape, by-kind}
 
 -- ---- the records that are found
 reopened : (image : List ℕ) (log : Log) → Inv image log → recordsOf (openOf image .log) ≡ recordsOf log
@@ -271,7 +271,7 @@ module _ (image : List ℕ) (log : Log) (i : Inv image log) where
 -- ---- one call more
 module _ (w : World) (i : Agree w) (credential new : ℕ) (fits : credential < 256) (small : new < 256) (plan : Plan) where
   abbrev m : Made
-  m = setting credential new plan
+  m = aSet credential new plan
 
   abbrev before : List Raw
   before = recordsOf (w .log)

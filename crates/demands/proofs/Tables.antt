@@ -11,20 +11,20 @@ use lib.Pow.{areBytes}
 use lib.Seq.{append-snoc, length-take-le}
 use borrow.Author.Tests.{eq-eqb, eqb-true, lt-ltb, ltb-true, ltb-false}
 use Rattle.basics.specs.Choice.{pick}
-use Rattle.basics.proofs.Choice.{alike}
-use Rattle.basics.proofs.Lists.{bytes-head, bytes-tail, bytes-take}
+use Rattle.basics.proofs.ChoiceLaws.{alike}
+use Rattle.basics.proofs.ListsLaws.{bytes-head, bytes-tail, bytes-take}
 use Rattle.codec.specs.declared.Raw.{Raw}
 use Rattle.codec.specs.declared.OptRaw.{OptRaw}
 use Rattle.codec.specs.Slots.{rawOf, slotOf, some, none, decoded}
-use Rattle.codec.proofs.RoundTrip.{decode-encode, decode-sealed}
+use Rattle.codec.proofs.SlotsRoundTrip.{decode-encode, decode-sealed}
 use Rattle.records.specs.Table.{limit, hasKey, sameKey, placeOf, holds, joined, falls, absorbed, hasRoom}
-use Rattle.records.proofs.Finding.{place-most, place-holds}
-use Rattle.records.proofs.Joining.{nowhere, join-held, join-new, absorb-join, absorb-kept, absorb-new}
-use Rattle.records.proofs.Keys.{Apart}
+use Rattle.records.proofs.TableFinding.{place-most, place-holds}
+use Rattle.records.proofs.TableJoining.{nowhere, join-held, join-new, absorb-join, absorb-kept, absorb-new}
+use Rattle.records.proofs.TableKeys.{Apart}
 use Rattle.scan.specs.Reading.{Read, tooMany, these, withRecord, withSlot, readFrom}
 use Rattle.records.specs.Fitting.{keysFit}
-use Rattle.records.proofs.fitting.Laws.{Tagged, keys-apart, keys-tagged, join-keys}
-use Rattle.records.proofs.fitting.Owned.{Whole, AllWhole}
+use Rattle.records.proofs.FittingLaws.{Tagged, keys-apart, keys-tagged, join-keys}
+use Rattle.records.proofs.LogsOwned.{Whole, AllWhole}
 use Rattle.demands.proofs.Torn.{decoded-or}
 
 -- ---- a table that a log may hold

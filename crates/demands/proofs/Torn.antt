@@ -13,18 +13,18 @@ use borrow.Author.Tests.{ne-eqb, leb-true, leb-false}
 use Rattle.basics.specs.Choice.{pick}
 use Rattle.basics.specs.Lists.{same, part, splice}
 use Rattle.basics.specs.Little.{leBytes, leNumber}
-use Rattle.basics.proofs.Lists.{same-refl, same-eq, read-part, bytes-cons, bytes-append, bytes-take}
-use Rattle.basics.proofs.Splice.{splice-length, splice-before}
-use Rattle.basics.proofs.Little.{le-bytes}
+use Rattle.basics.proofs.ListsLaws.{same-refl, same-eq, read-part, bytes-cons, bytes-append, bytes-take}
+use Rattle.basics.proofs.ListsSplice.{splice-length, splice-before}
+use Rattle.basics.proofs.LittleLaws.{le-bytes}
 use Rattle.crc.specs.Register.{crc32Of}
-use Rattle.crc.proofs.Bounds.{crc-lt}
+use Rattle.crc.proofs.RegisterBounds.{crc-lt}
 use Rattle.codec.specs.declared.Raw.{Raw}
 use Rattle.codec.specs.declared.Header.the-variants.{Valid, Invalid}
 use Rattle.codec.specs.Slots.{sealed, crcIn, headerBytes, headerSlot, isHeader, headerOf, crcUnder, bytesOf, rawOf, slotOf, isRecordWith, some, none, decodedWith, decoded}
-use Rattle.codec.proofs.RoundTrip.{sealed-length, sealed-bytes, slot-parts, Sealed, decode-sealed, header-read, header-sealed}
+use Rattle.codec.proofs.SlotsRoundTrip.{sealed-length, sealed-bytes, slot-parts, Sealed, decode-sealed, header-read, header-sealed}
 use Rattle.flash.specs.Run.{landed}
-use Rattle.flash.proofs.Landing.{landed-blank}
-use Rattle.records.proofs.fitting.Owned.{Whole}
+use Rattle.flash.proofs.RunLanding.{landed-blank}
+use Rattle.records.proofs.LogsOwned.{Whole}
 use Rattle.demands.specs.Chance.{cutAt, ChanceMatch}
 
 -- ---- the bytes of slots

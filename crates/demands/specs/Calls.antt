@@ -26,7 +26,7 @@ use Rattle.log.specs.Calls.{isFirst, putOf, putValueOf, putAnchorOf, formatOf}
 use Rattle.tries.specs.Tries.{startOf, spendOf, setOf, seenOf, advanceOf}
 use Rattle.demands.specs.Chance.{Unmatched}
 use Rattle.demands.specs.Healthy.{healthy}
-use Rattle.demands.specs.Shown.{Seen, seen, Table, holding, tableIn, tableOf}
+use Rattle.demands.specs.Seen.{Seen, seen, Table, holding, tableIn, tableOf}
 use Rattle.demands.specs.Typed.{TypedCounter, TypedAnchor, TypedSeeds}
 
 pub data Call : Type 0 where
@@ -62,20 +62,20 @@ abbrev pub tableAfter : Call → List ℕ → Log → Table
 tableAfter c image log = tableOf (outcomeOf c image log healthy .log)
 
 -- what a put_anchor that had no effect may leave: what was seen before, or of a first anchor the empty log ("an anchor's own format may stand")
-abbrev pub AnchorLeft : State → Anchor → Log → Seen → Type 0
-AnchorLeft Unformatted new log z = (z ≡ seen log) ⊎ ((isFirst new ≡ true) × (tableIn z ≡ holding []))
-AnchorLeft Failed new log z = z ≡ seen log
-AnchorLeft (Active sector seq head) new log z = z ≡ seen log
+abbrev pub AnchorNoEffect : State → Anchor → Log → Seen → Type 0
+AnchorNoEffect Unformatted new log z = (z ≡ seen log) ⊎ ((isFirst new ≡ true) × (tableIn z ≡ holding []))
+AnchorNoEffect Failed new log z = z ≡ seen log
+AnchorNoEffect (Active sector seq head) new log z = z ≡ seen log
 
 -- what a call that had no effect leaves to be seen: what was seen before
-abbrev pub Left : Call → Log → Seen → Type 0
-Left (put credential new) log z = z ≡ seen log
-Left (put-value id new) log z = z ≡ seen log
-Left (put-anchor new) log z = AnchorLeft (log .state) new log z
-Left (format seeds count) log z = z ≡ seen log
-Left (spend credential current) log z = z ≡ seen log
-Left (set-tries credential tries) log z = z ≡ seen log
-Left (advance-lamport latest) log z = z ≡ seen log
+abbrev pub NoEffect : Call → Log → Seen → Type 0
+NoEffect (put credential new) log z = z ≡ seen log
+NoEffect (put-value id new) log z = z ≡ seen log
+NoEffect (put-anchor new) log z = AnchorNoEffect (log .state) new log z
+NoEffect (format seeds count) log z = z ≡ seen log
+NoEffect (spend credential current) log z = z ≡ seen log
+NoEffect (set-tries credential tries) log z = z ≡ seen log
+NoEffect (advance-lamport latest) log z = z ≡ seen log
 
 -- ---- the chance match of a call
 -- the record that a call appends, where it appends one, to a log with these records

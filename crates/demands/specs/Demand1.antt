@@ -24,13 +24,13 @@ use Rattle.reads.specs.declared.Number.the-variants as number
 use Rattle.reads.specs.declared.Anchored.{Anchored}
 use Rattle.reads.specs.declared.Anchored.the-variants as anchored
 use Rattle.reads.specs.declared.Told.{Told}
-use Rattle.reads.specs.Reads.{getOf, valueOf, anchorOf, lamportOf, needsMigrationOf, refusedTold}
+use Rattle.reads.specs.Reads.{getOf, valueOf, anchorOf, lamportOf, needsMigrationOf, toldRefused}
 use Rattle.decisions.specs.Seeds.{seedsKnown}
 use Rattle.log.specs.Calls.{isFirst}
 use Rattle.decisions.specs.Outcomes.{flashOf, refused}
-use Rattle.tries.specs.declared.Left.{Left}
-use Rattle.tries.specs.declared.Left.the-variants as left
-use Rattle.tries.specs.Tries.{remainingLeft, loadOf}
+use Rattle.tries.specs.declared.TriesLeft.{TriesLeft}
+use Rattle.tries.specs.declared.TriesLeft.the-variants as left
+use Rattle.tries.specs.Tries.{triesLeftOf, loadOf}
 use Rattle.demands.specs.Calls.{Call, put, put-value, put-anchor, format, spend, set-tries, advance-lamport, outcomeOf}
 
 -- 1 to 5, 8 and 9 leave "all unchanged"
@@ -90,7 +90,7 @@ pub data Asked : Type 0 where
 abbrev pub Reply : Asked → Type 0
 Reply (get credential) = Counter
 Reply (get-value id) = Number
-Reply (remaining credential) = Left
+Reply (remaining credential) = TriesLeft
 Reply anchor = Anchored
 Reply lamport = Told
 Reply needs-migration = Told
@@ -99,7 +99,7 @@ Reply (load credential exists fresh) = Told
 abbrev pub replyOf : (q : Asked) → Log → Reply q
 replyOf (get credential) log = getOf log credential
 replyOf (get-value id) log = valueOf log id
-replyOf (remaining credential) log = remainingLeft log credential
+replyOf (remaining credential) log = triesLeftOf log credential
 replyOf anchor log = anchorOf log
 replyOf lamport log = lamportOf log
 replyOf needs-migration log = needsMigrationOf log
@@ -111,9 +111,9 @@ turnedAway (get credential) a = counter.Refused a
 turnedAway (get-value id) a = number.Refused a
 turnedAway (remaining credential) a = left.Refused a
 turnedAway anchor a = anchored.Refused a
-turnedAway lamport a = refusedTold a
-turnedAway needs-migration a = refusedTold a
-turnedAway (load credential exists fresh) a = refusedTold a
+turnedAway lamport a = toldRefused a
+turnedAway needs-migration a = toldRefused a
+turnedAway (load credential exists fresh) a = toldRefused a
 
 abbrev pub knownTo : Asked → Bool
 knownTo (get credential) = isCredential credential

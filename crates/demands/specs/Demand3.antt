@@ -5,8 +5,8 @@ use mathlib.Core.Logic.{_⊎_}
 use Prim.Native.Nat.{_≤_}
 use Rattle.basics.specs.Answers.{isDone}
 use Rattle.scan.specs.Opening.{openOf}
-use Rattle.demands.specs.Shown.{seen, tableOf, headOf}
-use Rattle.demands.specs.Calls.{tableAfter, Left, NoChance}
+use Rattle.demands.specs.Seen.{seen, tableOf, headOf}
+use Rattle.demands.specs.Calls.{tableAfter, NoEffect, NoChance}
 use Rattle.demands.specs.Sessions.{World, Made, outcome}
 
 -- opening again finds the state, sector, sequence number and table that the log in memory holds, and a head no higher than its head
@@ -18,7 +18,7 @@ pub record FindsAgain (w : World) : Type 0 where
 pub record WakesWith (w : World) (m : Made) : Type 0 where
   -- cut or not, the table of before or the one after; of a call that was cut the chance match is ruled out
   pub either : (outcome m w .flash .cut ≡ true → NoChance (m .call) (w .image) (w .log) (m .plan))
-      → Left (m .call) (w .log) (seen (openOf (outcome m w .flash .image) .log)) ⊎ (tableOf (openOf (outcome m w .flash .image) .log) ≡ tableAfter (m .call) (w .image) (w .log))
+      → NoEffect (m .call) (w .log) (seen (openOf (outcome m w .flash .image) .log)) ⊎ (tableOf (openOf (outcome m w .flash .image) .log) ≡ tableAfter (m .call) (w .image) (w .log))
   -- the latter if the call answered 0
   pub success : isDone (outcome m w .answer) ≡ true → tableOf (openOf (outcome m w .flash .image) .log) ≡ tableAfter (m .call) (w .image) (w .log)
   -- and a call that was cut never answers 0

@@ -13,7 +13,7 @@ use Rattle.records.specs.declared.Log.{Log}
 use Rattle.records.specs.Table.{joined}
 use Rattle.records.specs.Logs.{logOf, recordsOf}
 use Rattle.records.specs.Fitting.{seqMax}
-use Rattle.sectors.specs.Commits.{after}
+use Rattle.sectors.specs.Commits.{sectorAfter}
 use Rattle.decisions.specs.declared.Decision.{Decision}
 use Rattle.decisions.specs.Decisions.{give, putDecision, valueDecision, anchorDecision}
 use Rattle.reads.specs.Entering.{heldOf, roomFor}
@@ -53,7 +53,7 @@ pub record WritesWell (c : Call) (image : List ℕ) (log : Log) : Type 0 where
       → Reports (decisionOf c (recordsOf log) .value) (logOf (Active s seq (head + 1)) (log .«next_seq») (newTable c log)) 16 0 (outcomeOf c image log healthy)
   pub commit : knownIn c ≡ true → (s seq head : ℕ) → log .state ≡ Active s seq head → decisionOf c (recordsOf log) .write ≡ true → head ≡ 256 → 1 < sectorsIn (length image) → (log .«next_seq» ≡ seqMax → ⊥)
       → Reports (decisionOf c (recordsOf log) .value)
-      (logOf (Active (after (sectorsIn (length image)) s) (log .«next_seq») (length (newTable c log) + 1)) (log .«next_seq» + 1) (newTable c log))
+      (logOf (Active (sectorAfter (sectorsIn (length image)) s) (log .«next_seq») (length (newTable c log) + 1)) (log .«next_seq» + 1) (newTable c log))
       (16 * (length (newTable c log) + 1)) 4096 (outcomeOf c image log healthy)
 
 -- a format on one

@@ -1,6 +1,6 @@
 -- What the calls promise together: the words first, then the demands, one file each.
 pub mod Chance
-pub mod Shown
+pub mod Seen
 pub mod Healthy
 pub mod Typed
 pub mod Calls

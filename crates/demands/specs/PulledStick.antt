@@ -34,19 +34,19 @@ Lucky w m = outcome m w .flash .cut ≡ true → NoChance (m .call) (w .image) (
 abbrev pub triesIn : ℕ → ℕ → Log → ℕ
 triesIn credential current log = remainingOf (startOf (heldOf counterTag credential (recordsOf log)) current)
 
-abbrev pub spending : ℕ → ℕ → Plan → Made
-spending credential current plan = record { call = spend credential current; plan = plan }
+abbrev pub aSpend : ℕ → ℕ → Plan → Made
+aSpend credential current plan = record { call = spend credential current; plan = plan }
 
 -- the tries that are found after a spend
 abbrev pub triesWoken : World → ℕ → ℕ → Plan → ℕ
-triesWoken w credential current plan = triesIn credential current (woken w (spending credential current plan))
+triesWoken w credential current plan = triesIn credential current (woken w (aSpend credential current plan))
 
 pub record KeepsTries (w : World) (credential current : ℕ) (plan : Plan) : Type 0 where
   -- pulled or not, the tries it had or one fewer
-  pub either : Lucky w (spending credential current plan)
+  pub either : Lucky w (aSpend credential current plan)
       → (triesWoken w credential current plan ≡ triesIn credential current (w .log)) ⊎ (triesWoken w credential current plan + 1 ≡ triesIn credential current (w .log))
   -- a spend that answered 0 while tries were left has taken one
-  pub taken : isDone (outcome (spending credential current plan) w .answer) ≡ true → 0 < triesIn credential current (w .log)
+  pub taken : isDone (outcome (aSpend credential current plan) w .answer) ≡ true → 0 < triesIn credential current (w .log)
       → triesWoken w credential current plan + 1 ≡ triesIn credential current (w .log)
 
 -- ---- a set
@@ -61,15 +61,15 @@ counterHeld credential log = heldOf counterTag credential (recordsOf log)
 abbrev pub Has : ℕ → ℕ → Log → Type 0
 Has credential tries log = Remain tries (counterHeld credential log)
 
-abbrev pub setting : ℕ → ℕ → Plan → Made
-setting credential new plan = record { call = set-tries credential new; plan = plan }
+abbrev pub aSet : ℕ → ℕ → Plan → Made
+aSet credential new plan = record { call = set-tries credential new; plan = plan }
 
 pub record KeepsSet (w : World) (credential new : ℕ) (plan : Plan) : Type 0 where
   -- pulled or not, the counter from before, none where there was none, or one by which the new number of tries remains
-  pub either : Lucky w (setting credential new plan)
-      → (counterHeld credential (woken w (setting credential new plan)) ≡ counterHeld credential (w .log)) ⊎ Has credential new (woken w (setting credential new plan))
+  pub either : Lucky w (aSet credential new plan)
+      → (counterHeld credential (woken w (aSet credential new plan)) ≡ counterHeld credential (w .log)) ⊎ Has credential new (woken w (aSet credential new plan))
   -- the latter if it answered 0
-  pub success : isDone (outcome (setting credential new plan) w .answer) ≡ true → Has credential new (woken w (setting credential new plan))
+  pub success : isDone (outcome (aSet credential new plan) w .answer) ≡ true → Has credential new (woken w (aSet credential new plan))
 
 -- ---- any other call
 -- a put or a set of the credential; a format is refused where a record is held

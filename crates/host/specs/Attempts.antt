@@ -9,17 +9,17 @@ use Rattle.tries.specs.Tries.{advanceOf, spendOf}
 use Rattle.host.specs.declared.attempts.Attempted.{Attempted}
 
 -- a call on what another left
-abbrev pub after : Outcome → (List ℕ → Log → Plan → Outcome) → Outcome
-after o call = call (o .flash .image) (o .log) (o .flash .plan)
+abbrev pub andThen : Outcome → (List ℕ → Log → Plan → Outcome) → Outcome
+andThen o call = call (o .flash .image) (o .log) (o .flash .plan)
 
 abbrev pub spentAfter : Outcome → ℕ → ℕ → Outcome
-spentAfter o credential current = after o (λ (image : List ℕ) (log : Log) (plan : Plan). spendOf image log plan credential current)
+spentAfter o credential current = andThen o (λ (image : List ℕ) (log : Log) (plan : Plan). spendOf image log plan credential current)
 
 -- an answer and an image that show both, one after the other
-pub record Attempts (numbered spent : Outcome) (r : Attempted) (image : List ℕ) : Type 0 where
+pub record ShowsAttempted (numbered spent : Outcome) (r : Attempted) (image : List ℕ) : Type 0 where
   pub answered : r ≡ record { numbered = doneOf numbered; spent = doneOf spent }
   pub left : image ≡ spent .flash .image
 
 abbrev pub AttemptOf : List ℕ → Log → Plan → ℕ → ℕ → ℕ → Attempted → List ℕ → Type 0
 AttemptOf image log plan credential current seen r left =
-    Attempts (advanceOf image log plan seen) (spentAfter (advanceOf image log plan seen) credential current) r left
+    ShowsAttempted (advanceOf image log plan seen) (spentAfter (advanceOf image log plan seen) credential current) r left

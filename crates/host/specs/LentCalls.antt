@@ -4,9 +4,9 @@ use mathlib.Core.List.{List}
 use Prim.Native.Nat.{ℕ}
 use Rattle.flash.specs.declared.Plan.{Plan}
 use Rattle.decisions.specs.declared.outcomes.Done.{Done}
-use Rattle.decisions.specs.Outcomes.{Outcome, Meets}
+use Rattle.decisions.specs.Outcomes.{Outcome, ShowsDone}
 
 -- an answer, an image and a plan in its place that show this outcome
-pub record Leaves (o : Outcome) (r : Done) (image : List ℕ) (plan : Plan) : Type 0 where
-  pub met : Meets o r image
+pub record ShowsDoneLent (o : Outcome) (r : Done) (image : List ℕ) (plan : Plan) : Type 0 where
+  pub met : ShowsDone o r image
   pub left : plan ≡ o .flash .plan

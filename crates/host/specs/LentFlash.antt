@@ -13,12 +13,12 @@ use Rattle.flash.specs.declared.Plan.{Plan}
 use Rattle.flash.specs.Image.{sectorsIn}
 use Rattle.flash.specs.Run.{Flash, Stepped, program, erase}
 use Rattle.sectors.specs.declared.Step.{Step}
-use Rattle.sectors.specs.Shown.{Stepping}
+use Rattle.sectors.specs.Shown.{ShowsStep}
 use Rattle.decisions.specs.Outcomes.{flashOf}
 
 -- an answer, an image and a plan in its place that show this step
-pub record StepLeaves (o : Stepped) (r : Step) (image : List ℕ) (plan : Plan) : Type 0 where
-  pub met : Stepping o r image
+pub record ShowsStepLent (o : Stepped) (r : Step) (image : List ℕ) (plan : Plan) : Type 0 where
+  pub met : ShowsStep o r image
   pub left : plan ≡ o .flash .plan
 
 -- "1 BadImage"; what the image doesn't have is refused as `outside` says

@@ -4,8 +4,8 @@ use basics::Answer;
 use flash::Plan;
 use sectors::Step;
 ghost use mathlib.Core.Path.{_≡_};
-ghost use Rattle.sectors.specs.Shown.{Stepping};
-ghost use Rattle.host.specs.LentFlash.{StepLeaves, placeAnswer, programOf, eraseOf};
+ghost use Rattle.sectors.specs.Shown.{ShowsStep};
+ghost use Rattle.host.specs.LentFlash.{ShowsStepLent, placeAnswer, programOf, eraseOf};
 
 // The plan that a program or an erase hands back.
 fn plan_left(step: Step) -> Plan
@@ -39,7 +39,7 @@ fn program_by_value(
     slot: usize,
     bytes: [u8; 16],
 ) -> Step
-    ensures { λ r. ⌜ Stepping (programOf (now (image .entry)) sector plan slot bytes) r (now (image .exit)) ⌝ }
+    ensures { λ r. ⌜ ShowsStep (programOf (now (image .entry)) sector plan slot bytes) r (now (image .exit)) ⌝ }
 {
     let n = flash::sectors(image.len());
     let answer = place_answer(n, sector, slot, Answer::WriteError);
@@ -54,7 +54,7 @@ fn program_by_value(
 }
 
 fn erase_by_value(image: &mut [u8], sector: usize, plan: Plan) -> Step
-    ensures { λ r. ⌜ Stepping (eraseOf (now (image .entry)) sector plan) r (now (image .exit)) ⌝ }
+    ensures { λ r. ⌜ ShowsStep (eraseOf (now (image .entry)) sector plan) r (now (image .exit)) ⌝ }
 {
     let n = flash::sectors(image.len());
     let answer = place_answer(n, sector, 0, Answer::EraseError);
@@ -75,7 +75,7 @@ pub fn program(
     slot: usize,
     bytes: [u8; 16],
 ) -> Step
-    ensures { λ r. ⌜ StepLeaves (programOf (now (image .entry)) sector (now (plan .entry)) slot bytes) r (now (image .exit)) (now (plan .exit)) ⌝ }
+    ensures { λ r. ⌜ ShowsStepLent (programOf (now (image .entry)) sector (now (plan .entry)) slot bytes) r (now (image .exit)) (now (plan .exit)) ⌝ }
 {
     let step = program_by_value(image, sector, *plan, slot, bytes);
     *plan = plan_left(step);
@@ -83,7 +83,7 @@ pub fn program(
 }
 
 pub fn erase(image: &mut [u8], sector: usize, plan: &mut Plan) -> Step
-    ensures { λ r. ⌜ StepLeaves (eraseOf (now (image .entry)) sector (now (plan .entry))) r (now (image .exit)) (now (plan .exit)) ⌝ }
+    ensures { λ r. ⌜ ShowsStepLent (eraseOf (now (image .entry)) sector (now (plan .entry))) r (now (image .exit)) (now (plan .exit)) ⌝ }
 {
     let step = erase_by_value(image, sector, *plan);
     *plan = plan_left(step);

@@ -21,7 +21,7 @@ use records::Log;
 ghost use mathlib.Core.Path.{_≡_};
 ghost use Rattle.log.specs.Calls.{putOf, putValueOf, putAnchorOf, formatOf};
 ghost use Rattle.tries.specs.Tries.{spendOf, setOf, advanceOf};
-ghost use Rattle.host.specs.LentCalls.{Leaves};
+ghost use Rattle.host.specs.LentCalls.{ShowsDoneLent};
 
 // The plan that a call hands back.
 fn plan_after(done: Done) -> Plan
@@ -32,7 +32,7 @@ fn plan_after(done: Done) -> Plan
 }
 
 pub fn put(image: &mut [u8], log: Log, plan: &mut Plan, credential: u8, new: CounterState) -> Done
-    ensures { λ r. ⌜ Leaves (putOf (now (image .entry)) log (now (plan .entry)) credential new) r (now (image .exit)) (now (plan .exit)) ⌝ }
+    ensures { λ r. ⌜ ShowsDoneLent (putOf (now (image .entry)) log (now (plan .entry)) credential new) r (now (image .exit)) (now (plan .exit)) ⌝ }
 {
     let done = log::put(image, log, *plan, credential, new);
     *plan = plan_after(done);
@@ -40,7 +40,7 @@ pub fn put(image: &mut [u8], log: Log, plan: &mut Plan, credential: u8, new: Cou
 }
 
 pub fn put_value(image: &mut [u8], log: Log, plan: &mut Plan, id: u8, new: u64) -> Done
-    ensures { λ r. ⌜ Leaves (putValueOf (now (image .entry)) log (now (plan .entry)) id new) r (now (image .exit)) (now (plan .exit)) ⌝ }
+    ensures { λ r. ⌜ ShowsDoneLent (putValueOf (now (image .entry)) log (now (plan .entry)) id new) r (now (image .exit)) (now (plan .exit)) ⌝ }
 {
     let done = log::put_value(image, log, *plan, id, new);
     *plan = plan_after(done);
@@ -48,7 +48,7 @@ pub fn put_value(image: &mut [u8], log: Log, plan: &mut Plan, id: u8, new: u64) 
 }
 
 pub fn put_anchor(image: &mut [u8], log: Log, plan: &mut Plan, new: Anchor) -> Done
-    ensures { λ r. ⌜ Leaves (putAnchorOf (now (image .entry)) log (now (plan .entry)) new) r (now (image .exit)) (now (plan .exit)) ⌝ }
+    ensures { λ r. ⌜ ShowsDoneLent (putAnchorOf (now (image .entry)) log (now (plan .entry)) new) r (now (image .exit)) (now (plan .exit)) ⌝ }
 {
     let done = log::put_anchor(image, log, *plan, new);
     *plan = plan_after(done);
@@ -62,7 +62,7 @@ pub fn format(
     seeds: [Seed; SEEDS],
     count: usize,
 ) -> Done
-    ensures { λ r. ⌜ Leaves (formatOf (now (image .entry)) log (now (plan .entry)) seeds count) r (now (image .exit)) (now (plan .exit)) ⌝ }
+    ensures { λ r. ⌜ ShowsDoneLent (formatOf (now (image .entry)) log (now (plan .entry)) seeds count) r (now (image .exit)) (now (plan .exit)) ⌝ }
 {
     let done = log::format(image, log, *plan, seeds, count);
     *plan = plan_after(done);
@@ -70,7 +70,7 @@ pub fn format(
 }
 
 pub fn spend(image: &mut [u8], log: Log, plan: &mut Plan, credential: u8, current: u8) -> Done
-    ensures { λ r. ⌜ Leaves (spendOf (now (image .entry)) log (now (plan .entry)) credential current) r (now (image .exit)) (now (plan .exit)) ⌝ }
+    ensures { λ r. ⌜ ShowsDoneLent (spendOf (now (image .entry)) log (now (plan .entry)) credential current) r (now (image .exit)) (now (plan .exit)) ⌝ }
 {
     let done = tries::spend(image, log, *plan, credential, current);
     *plan = plan_after(done);
@@ -78,7 +78,7 @@ pub fn spend(image: &mut [u8], log: Log, plan: &mut Plan, credential: u8, curren
 }
 
 pub fn set(image: &mut [u8], log: Log, plan: &mut Plan, credential: u8, tries: u8) -> Done
-    ensures { λ r. ⌜ Leaves (setOf (now (image .entry)) log (now (plan .entry)) credential tries) r (now (image .exit)) (now (plan .exit)) ⌝ }
+    ensures { λ r. ⌜ ShowsDoneLent (setOf (now (image .entry)) log (now (plan .entry)) credential tries) r (now (image .exit)) (now (plan .exit)) ⌝ }
 {
     let done = tries::set(image, log, *plan, credential, tries);
     *plan = plan_after(done);
@@ -86,7 +86,7 @@ pub fn set(image: &mut [u8], log: Log, plan: &mut Plan, credential: u8, tries: u
 }
 
 pub fn advance_lamport(image: &mut [u8], log: Log, plan: &mut Plan, seen: u64) -> Done
-    ensures { λ r. ⌜ Leaves (advanceOf (now (image .entry)) log (now (plan .entry)) seen) r (now (image .exit)) (now (plan .exit)) ⌝ }
+    ensures { λ r. ⌜ ShowsDoneLent (advanceOf (now (image .entry)) log (now (plan .entry)) seen) r (now (image .exit)) (now (plan .exit)) ⌝ }
 {
     let done = tries::advance_lamport(image, log, *plan, seen);
     *plan = plan_after(done);

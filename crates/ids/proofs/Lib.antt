@@ -1,2 +1,2 @@
 -- The laws of ids and counters, which callers cite.
-pub mod Laws
+pub mod IdsLaws

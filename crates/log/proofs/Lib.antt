@@ -1,3 +1,3 @@
 -- Laws of the calls.
-pub mod Anchoring
-pub mod Formatting
+pub mod CallsAnchor
+pub mod CallsFormat

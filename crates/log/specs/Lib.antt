@@ -1,3 +1,3 @@
 -- The calls that can write.
 pub mod Calls
-pub mod Steps
+pub mod FirstAnchor

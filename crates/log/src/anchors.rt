@@ -17,11 +17,11 @@ ghost use Prim.Native.Nat.{_≤_, _<_};
 ghost use lib.ListN.{length};
 ghost use Rattle.records.specs.declared.State.the-variants.{Unformatted};
 ghost use Rattle.sectors.specs.Shown.{flashWith};
-ghost use Rattle.decisions.specs.Outcomes.{Meets};
+ghost use Rattle.decisions.specs.Outcomes.{ShowsDone};
 ghost use Rattle.decisions.specs.Performing.{formatted};
-ghost use Rattle.decisions.specs.PerformingSteps.{Shows, Room};
+ghost use Rattle.decisions.specs.Ready.{Shows, FitToWrite};
 ghost use Rattle.log.specs.Calls.{isFirst, anchoredFirst, putAnchorOf};
-ghost use Rattle.log.specs.Steps.{opensLog};
+ghost use Rattle.log.specs.FirstAnchor.{opensLog};
 
 // Whether a call that was let in brings the first anchor of a log that was never formatted.
 fn is_first(answer: Answer, state: State, new: Anchor) -> bool
@@ -48,8 +48,8 @@ fn is_first(answer: Answer, state: State, new: Anchor) -> bool
 
 // The first anchor formats the log empty, and is then its first record.
 fn first_anchor(image: &mut [u8], log: Log, used: Used, sectors: usize, new: Anchor) -> Done
-    requires { ⌜ Room (length (now image)) sectors log used × (log .state ≡ Unformatted) × (0 < sectors) × (used .programmed ≤ 0) × (used .erased ≤ 0) × (isFirst new ≡ true) ⌝ }
-    ensures { λ r. ⌜ Shows (λ (cut : Bool). anchoredFirst new sectors (formatted [] sectors log (flashWith (now (image .entry)) used cut))) r (now (image .exit)) ⌝ }
+    requires { ⌜ FitToWrite (length (now image)) sectors log used × (log .state ≡ Unformatted) × (0 < sectors) × (used .programmed ≤ 0) × (used .erased ≤ 0) × (isFirst new ≡ true) ⌝ }
+    ensures { λ r. ⌜ (cut : Bool) → ShowsDone (anchoredFirst new sectors (formatted [] sectors log (flashWith (now (image .entry)) used cut))) r (now (image .exit)) ⌝ }
 {
     let f = decisions::format_with(image, log, used, sectors, records::empty_table(), 0);
     let answer = f.answer;
@@ -79,7 +79,7 @@ fn first_anchor(image: &mut [u8], log: Log, used: Used, sectors: usize, new: Anc
 }
 
 pub fn put_anchor(image: &mut [u8], log: Log, plan: Plan, new: Anchor) -> Done
-    ensures { λ r. ⌜ Meets (putAnchorOf (now (image .entry)) log plan new) r (now (image .exit)) ⌝ }
+    ensures { λ r. ⌜ ShowsDone (putAnchorOf (now (image .entry)) log plan new) r (now (image .exit)) ⌝ }
 {
     let n = flash::sectors(image.len());
     let e = reads::enter(log, n, true, ids::ANCHOR_TAG, 0);

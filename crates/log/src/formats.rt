@@ -7,11 +7,11 @@ use decisions::Seed;
 use flash::Plan;
 use records::Log;
 use records::State;
-ghost use Rattle.decisions.specs.Outcomes.{Meets};
+ghost use Rattle.decisions.specs.Outcomes.{ShowsDone};
 ghost use Rattle.log.specs.Calls.{formatOf};
 
 pub fn format(image: &mut [u8], log: Log, plan: Plan, seeds: [Seed; SEEDS], count: usize) -> Done
-    ensures { λ r. ⌜ Meets (formatOf (now (image .entry)) log plan seeds count) r (now (image .exit)) ⌝ }
+    ensures { λ r. ⌜ ShowsDone (formatOf (now (image .entry)) log plan seeds count) r (now (image .exit)) ⌝ }
 {
     let n = flash::sectors(image.len());
     let e = reads::enter(

@@ -3,11 +3,11 @@ use decisions::Done;
 use flash::Plan;
 use ids::CounterState;
 use records::Log;
-ghost use Rattle.decisions.specs.Outcomes.{Meets};
+ghost use Rattle.decisions.specs.Outcomes.{ShowsDone};
 ghost use Rattle.log.specs.Calls.{putOf, putValueOf};
 
 pub fn put(image: &mut [u8], log: Log, plan: Plan, credential: u8, new: CounterState) -> Done
-    ensures { λ r. ⌜ Meets (putOf (now (image .entry)) log plan credential new) r (now (image .exit)) ⌝ }
+    ensures { λ r. ⌜ ShowsDone (putOf (now (image .entry)) log plan credential new) r (now (image .exit)) ⌝ }
 {
     let n = flash::sectors(image.len());
     let e = reads::enter(
@@ -23,7 +23,7 @@ pub fn put(image: &mut [u8], log: Log, plan: Plan, credential: u8, new: CounterS
 }
 
 pub fn put_value(image: &mut [u8], log: Log, plan: Plan, id: u8, new: u64) -> Done
-    ensures { λ r. ⌜ Meets (putValueOf (now (image .entry)) log plan id new) r (now (image .exit)) ⌝ }
+    ensures { λ r. ⌜ ShowsDone (putValueOf (now (image .entry)) log plan id new) r (now (image .exit)) ⌝ }
 {
     let n = flash::sectors(image.len());
     let e = reads::enter(log, n, ids::is_value(id), ids::VALUE_TAG, id);

@@ -1,2 +1,2 @@
 -- Laws of the tests that every call begins with.
-pub mod Entering
+pub mod EnteringLaws

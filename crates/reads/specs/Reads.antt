@@ -55,28 +55,28 @@ unfoldable pub anchorOf : Log → Anchored
 anchorOf log = readBy anchorBy anchored.Refused log true anchorTag 0
 
 -- ---- lamport: "answers 0 where no record is held"
-abbrev pub told : ℕ → Told
-told x = record { answer = Done; value = x }
+abbrev pub toldOf : ℕ → Told
+toldOf x = record { answer = Done; value = x }
 
-abbrev pub refusedTold : Answer → Told
-refusedTold a = record { answer = a; value = 0 }
+abbrev pub toldRefused : Answer → Told
+toldRefused a = record { answer = a; value = 0 }
 
 abbrev pub lamportBy : Number → Told
-lamportBy (number.Refused a) = refusedTold a
-lamportBy number.Nothing = told 0
-lamportBy (number.Held x) = told x
+lamportBy (number.Refused a) = toldRefused a
+lamportBy number.Nothing = toldOf 0
+lamportBy (number.Held x) = toldOf x
 
 abbrev pub lamportOf : Log → Told
 lamportOf log = lamportBy (valueOf log lamport)
 
 -- ---- needs_migration: "says whether the log is Unformatted"
 abbrev pub migrationBy : State → OptRaw → Told
-migrationBy Unformatted held = told 1
-migrationBy Failed held = told 0
-migrationBy (Active sector seq head) held = told 0
+migrationBy Unformatted held = toldOf 1
+migrationBy Failed held = toldOf 0
+migrationBy (Active sector seq head) held = toldOf 0
 
 unfoldable pub needsMigrationOf : Log → Told
-needsMigrationOf log = readBy migrationBy refusedTold log true anchorTag 0
+needsMigrationOf log = readBy migrationBy toldRefused log true anchorTag 0
 
 -- ---- "Numbers returned", of each case
 abbrev pub counterNumber : Counter → ℕ

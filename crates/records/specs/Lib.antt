@@ -3,4 +3,4 @@ pub mod Table
 pub mod Logs
 -- The BadLog test, and what a look over a log finds.
 pub mod Fitting
-pub mod FittingSteps
+pub mod Surveys

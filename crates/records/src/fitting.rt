@@ -7,7 +7,7 @@ ghost use mathlib.Core.Path.{_≡_};
 ghost use lib.Dec.{eqb};
 ghost use lib.ListN.{drop};
 ghost use Rattle.records.specs.Fitting.{stateFits, isZeros, allZeros};
-ghost use Rattle.records.specs.FittingSteps.{refused};
+ghost use Rattle.records.specs.Surveys.{misfitted};
 
 // The highest number a sector can have.
 pub const SEQ_MAX: u32 = 4294967295;
@@ -21,7 +21,7 @@ pub struct Looked {
 
 // What is found in a log that doesn't fit.
 pub fn misfit() -> Looked
-    ensures { λ r. ⌜ r ≡ refused ⌝ }
+    ensures { λ r. ⌜ r ≡ misfitted ⌝ }
 {
     let z = Raw::none();
     Looked {

@@ -7,7 +7,7 @@ ghost use mathlib.Core.Path.{_≡_};
 ghost use Prim.Native.Nat.{_≤_};
 ghost use lib.ListN.{take};
 ghost use Rattle.records.specs.Table.{limit};
-ghost use Rattle.records.specs.FittingSteps.{surveyOf};
+ghost use Rattle.records.specs.Surveys.{surveyOf};
 
 // Whether no key stands twice and no tag is FF, and where a key stands. A key can only stand twice if its id does, so
 // keys are compared only where an id is met again.

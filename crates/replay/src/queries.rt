@@ -9,7 +9,7 @@ use records::Log;
 use script::MAX_8;
 use script::Reply;
 use script::board::Value;
-use tries::Left;
+use tries::TriesLeft;
 ghost use Prim.Native.Nat.{_≤_};
 ghost use lib.ListN.{length};
 
@@ -74,9 +74,9 @@ fn anchor(log: Log) -> Reply {
 
 fn remaining(log: Log, credential: u8) -> Reply {
     match tries::remaining(log, credential) {
-        Left::Refused(answer) => says(answer, Value::Absent),
-        Left::Nothing => says(Answer::Done, Value::Absent),
-        Left::Tries(n) => says(Answer::Done, Value::One(n as u64)),
+        TriesLeft::Refused(answer) => says(answer, Value::Absent),
+        TriesLeft::Nothing => says(Answer::Done, Value::Absent),
+        TriesLeft::Tries(n) => says(Answer::Done, Value::One(n as u64)),
     }
 }
 

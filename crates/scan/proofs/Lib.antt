@@ -1,5 +1,5 @@
 -- Laws of opening: which header wins, what the slots come to, and what opening says of an image.
-pub mod Choosing
-pub mod Winning
-pub mod Reading
-pub mod Viewing
+pub mod ChoosingLaws
+pub mod ChoosingWinner
+pub mod ReadingLaws
+pub mod OpeningView

@@ -1,7 +1,8 @@
 -- Laws of reading a script: each part, and that what is written reads back.
-pub mod Ends
-pub mod Comparing
-pub mod Amounts
-pub mod Behind
-pub mod Pairs
+pub mod WordsEnds
+pub mod WordsComparing
+pub mod DecimalsAmounts
+pub mod WordsBehind
+pub mod HexPairs
 pub mod RoundTrip
+pub mod LimitsLaws

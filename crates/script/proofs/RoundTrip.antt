@@ -7,15 +7,15 @@ use native.Mathlib.Omega.{arith}
 use lib.Dec.{ltb}
 use lib.ListN.{length}
 use borrow.Author.Tests.{le-leb, ltb-true, ltb-false, lt-ltb}
-use Rattle.basics.proofs.Choice.{both, by-test}
+use Rattle.basics.proofs.ChoiceLaws.{both, by-test}
 use Rattle.text.specs.Text.{digits, decimal, hexDigit, hexOf}
-use Rattle.text.proofs.Decimal.{decimal-read}
-use Rattle.text.proofs.Hex.{digit-low, digit-high}
+use Rattle.text.proofs.TextDecimal.{decimal-read}
+use Rattle.text.proofs.TextHex.{digit-low, digit-high}
 use Rattle.script.specs.declared.Value.the-variants as value
 use Rattle.script.specs.Decimals.{allDigits, amountFrom, amountOf}
 use Rattle.script.specs.Hex.{hexValue, bytesOf}
-use Rattle.script.proofs.Amounts.{a-digit, some-amount}
-use Rattle.script.proofs.Pairs.{value-digit, value-letter}
+use Rattle.script.proofs.DecimalsAmounts.{a-digit, some-amount}
+use Rattle.script.proofs.HexPairs.{value-digit, value-letter}
 
 -- ---- numbers
 -- the text of a number is digits, and some

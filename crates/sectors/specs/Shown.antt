@@ -8,8 +8,8 @@ use Rattle.sectors.specs.declared.Used.{Used}
 use Rattle.sectors.specs.declared.Step.{Step}
 use Rattle.sectors.specs.declared.Wrote as wrote
 use Rattle.sectors.specs.declared.Tried as tried
-use Rattle.sectors.specs.Commits.{Wrote}
-use Rattle.sectors.specs.Appends.{Tried}
+use Rattle.sectors.specs.Commits.{Written}
+use Rattle.sectors.specs.Appends.{SlotTries}
 
 -- the flash that an image and what was used stand for
 abbrev pub flashWith : List ℕ → Used → Bool → Flash
@@ -19,24 +19,24 @@ flashWith image used cut =
 abbrev pub usedOf : Flash → Used
 usedOf f = record { plan = f .plan; programmed = f .programmed; erased = f .erased }
 
-pub record Stepping (o : Stepped) (r : Step) (image : List ℕ) : Type 0 where
+pub record ShowsStep (o : Stepped) (r : Step) (image : List ℕ) : Type 0 where
   pub shown : r ≡ record { answer = o .answer; used = usedOf (o .flash) }
   pub left : image ≡ o .flash .image
 
 -- whatever was cut before
 abbrev pub Steps : (Bool → Stepped) → Step → List ℕ → Type 0
-Steps o r image = (cut : Bool) → Stepping (o cut) r image
+Steps o r image = (cut : Bool) → ShowsStep (o cut) r image
 
-pub record Writing (o : Wrote) (r : wrote.Wrote) (image : List ℕ) : Type 0 where
+pub record ShowsWrote (o : Written) (r : wrote.Wrote) (image : List ℕ) : Type 0 where
   pub shown : r ≡ record { answer = o .answer; state = o .state; «next_seq» = o .next; used = usedOf (o .flash) }
   pub left : image ≡ o .flash .image
 
-abbrev pub Writes : (Bool → Wrote) → wrote.Wrote → List ℕ → Type 0
-Writes o r image = (cut : Bool) → Writing (o cut) r image
+abbrev pub Writes : (Bool → Written) → wrote.Wrote → List ℕ → Type 0
+Writes o r image = (cut : Bool) → ShowsWrote (o cut) r image
 
-pub record Trying (o : Tried) (r : tried.Tried) (image : List ℕ) : Type 0 where
+pub record ShowsTried (o : SlotTries) (r : tried.Tried) (image : List ℕ) : Type 0 where
   pub shown : r ≡ record { full = o .full; answer = o .answer; head = o .head; used = usedOf (o .flash) }
   pub left : image ≡ o .flash .image
 
-abbrev pub Tries : (Bool → Tried) → tried.Tried → List ℕ → Type 0
-Tries o r image = (cut : Bool) → Trying (o cut) r image
+abbrev pub Tries : (Bool → SlotTries) → tried.Tried → List ℕ → Type 0
+Tries o r image = (cut : Bool) → ShowsTried (o cut) r image

@@ -18,7 +18,7 @@ ghost use Rattle.sectors.specs.Shown.{flashWith, Writes, Tries};
 // Up to three tries of a slot, each in a new place; `full` where head reaches 256 first.
 fn try_slots(image: &mut [u8], sector: usize, head: u32, bytes: [u8; 16], used: Used) -> Tried
     requires { ⌜ (head ≤ 256) × (sector * 4096 + 4096 ≤ length (now image)) × (used .programmed ≤ 256) ⌝ }
-    ensures { λ r. ⌜ Tries (λ (cut : Bool). triesFrom 3 sector head bytes WriteError (flashWith (now (image .entry)) used cut)) r (now (image .exit)) ⌝ }
+    ensures { λ r. ⌜ (cut : Bool) → ShowsTried (triesFrom 3 sector head bytes WriteError (flashWith (now (image .entry)) used cut)) r (now (image .exit)) ⌝ }
 {
     let mut answer = Answer::WriteError;
     let mut h = head;
@@ -69,7 +69,7 @@ pub fn append(
     used: Used,
 ) -> Wrote
     requires { ⌜ (count ≤ 32) × (sectors ≤ 16) × (sectors * 4096 ≤ length (now image)) × (sector < sectors) × (head ≤ 256) × (used .programmed ≤ 256) × (used .erased ≤ 65536) ⌝ }
-    ensures { λ r. ⌜ Writes (λ (cut : Bool). appendOf sectors sector seq head «next_seq» «record» (take count table) (flashWith (now (image .entry)) used cut)) r (now (image .exit)) ⌝ }
+    ensures { λ r. ⌜ (cut : Bool) → ShowsWrote (appendOf sectors sector seq head «next_seq» «record» (take count table) (flashWith (now (image .entry)) used cut)) r (now (image .exit)) ⌝ }
 {
     let w = try_slots(image, sector, head, codec::encode(record, seq), used);
     let here = State::Active {

@@ -12,7 +12,7 @@ ghost use mathlib.Core.Bool.{Bool};
 ghost use Prim.Native.Nat.{_*_, _≤_, _<_};
 ghost use lib.ListN.{length, take};
 ghost use Rattle.basics.specs.declared.Answer.the-variants.{WriteError};
-ghost use Rattle.sectors.specs.Commits.{after as afterSector, commitFrom};
+ghost use Rattle.sectors.specs.Commits.{sectorAfter as afterSector, commitFrom};
 ghost use Rattle.sectors.specs.Shown.{flashWith, Writes};
 
 // The sector after s, round from the last to 0.
@@ -36,7 +36,7 @@ pub fn commit(
     used: Used,
 ) -> Wrote
     requires { ⌜ (count ≤ 32) × (sectors ≤ 16) × (sectors * 4096 ≤ length (now image)) × (first < sectors) × (used .programmed ≤ 304) × (used .erased ≤ 65536) ⌝ }
-    ensures { λ r. ⌜ Writes (λ (cut : Bool). commitFrom sectors sectors avoid first (take count table) WriteError state «next_seq» (flashWith (now (image .entry)) used cut)) r (now (image .exit)) ⌝ }
+    ensures { λ r. ⌜ (cut : Bool) → ShowsWrote (commitFrom sectors sectors avoid first (take count table) WriteError state «next_seq» (flashWith (now (image .entry)) used cut)) r (now (image .exit)) ⌝ }
 {
     let mut answer = Answer::WriteError;
     let mut next = next_seq;

@@ -49,7 +49,7 @@ pub struct Tried {
 // Program a slot.
 pub fn program(image: &mut [u8], sector: usize, slot: usize, bytes: [u8; 16], used: Used) -> Step
     requires { ⌜ (slot < 256) × (sector * 4096 + 4096 ≤ length (now image)) × (used .programmed < 65536) ⌝ }
-    ensures { λ r. ⌜ Steps (λ (cut : Bool). run.program sector slot bytes (flashWith (now (image .entry)) used cut)) r (now (image .exit)) ⌝ }
+    ensures { λ r. ⌜ (cut : Bool) → ShowsStep (run.program sector slot bytes (flashWith (now (image .entry)) used cut)) r (now (image .exit)) ⌝ }
 {
     let plan = used.plan;
     let n = flash::to_program(plan);
@@ -67,7 +67,7 @@ pub fn program(image: &mut [u8], sector: usize, slot: usize, bytes: [u8; 16], us
 
 pub fn erase(image: &mut [u8], sector: usize, used: Used) -> Step
     requires { ⌜ (sector * 4096 + 4096 ≤ length (now image)) × (used .erased < 131073) ⌝ }
-    ensures { λ r. ⌜ Steps (λ (cut : Bool). run.erase sector (flashWith (now (image .entry)) used cut)) r (now (image .exit)) ⌝ }
+    ensures { λ r. ⌜ (cut : Bool) → ShowsStep (run.erase sector (flashWith (now (image .entry)) used cut)) r (now (image .exit)) ⌝ }
 {
     let plan = used.plan;
     let n = flash::to_erase(plan);

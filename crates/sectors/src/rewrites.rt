@@ -20,7 +20,7 @@ fn write_records(
     used: Used,
 ) -> Step
     requires { ⌜ (count ≤ 32) × (sector * 4096 + 4096 ≤ length (now image)) × (used .programmed ≤ 20000) ⌝ }
-    ensures { λ r. ⌜ Steps (λ (cut : Bool). writeRecords sector seq 1 (take count table) (flashWith (now (image .entry)) used cut)) r (now (image .exit)) ⌝ }
+    ensures { λ r. ⌜ (cut : Bool) → ShowsStep (writeRecords sector seq 1 (take count table) (flashWith (now (image .entry)) used cut)) r (now (image .exit)) ⌝ }
 {
     let start = codec::under(seq);
     let mut u = used;
@@ -51,7 +51,7 @@ pub fn write_sector(
     used: Used,
 ) -> Step
     requires { ⌜ (count ≤ 32) × (sector * 4096 + 4096 ≤ length (now image)) × (used .programmed ≤ 19000) × (used .erased < 131073) ⌝ }
-    ensures { λ r. ⌜ Steps (λ (cut : Bool). writeSector sector seq (take count table) (flashWith (now (image .entry)) used cut)) r (now (image .exit)) ⌝ }
+    ensures { λ r. ⌜ (cut : Bool) → ShowsStep (writeSector sector seq (take count table) (flashWith (now (image .entry)) used cut)) r (now (image .exit)) ⌝ }
 {
     let e = crate::erase(image, sector, used);
     let erased = e.answer;

@@ -1,4 +1,4 @@
 -- Laws of text: how puts make one text, and what the digits of a number say.
-pub mod Putting
-pub mod Decimal
-pub mod Hex
+pub mod TextPutting
+pub mod TextDecimal
+pub mod TextHex

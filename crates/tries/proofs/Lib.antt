@@ -1,2 +1,2 @@
 -- Laws of what the helpers decide.
-pub mod Keyed
+pub mod TriesKeyed

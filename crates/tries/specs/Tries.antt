@@ -20,29 +20,29 @@ use Rattle.decisions.specs.Decisions.{refuse, give, write}
 use Rattle.reads.specs.declared.Counter.{Counter}
 use Rattle.reads.specs.declared.Counter.the-variants as counter
 use Rattle.reads.specs.declared.Told.{Told}
-use Rattle.reads.specs.Reads.{getOf, told, refusedTold}
+use Rattle.reads.specs.Reads.{getOf, toldOf, toldRefused}
 use Rattle.decisions.specs.Outcomes.{Outcome, entered}
 use Rattle.decisions.specs.Performing.{decided}
-use Rattle.tries.specs.declared.Left.{Left}
-use Rattle.tries.specs.declared.Left.the-variants.{Refused, Nothing, Tries}
+use Rattle.tries.specs.declared.TriesLeft.{TriesLeft}
+use Rattle.tries.specs.declared.TriesLeft.the-variants.{Refused, Nothing, Tries}
 
 -- ---- remaining
-abbrev pub remainingIn : Counter → Left
-remainingIn (counter.Refused a) = Refused a
-remainingIn counter.Nothing = Nothing
-remainingIn (counter.Held s) = Tries (remainingOf s)
+abbrev pub triesLeftBy : Counter → TriesLeft
+triesLeftBy (counter.Refused a) = Refused a
+triesLeftBy counter.Nothing = Nothing
+triesLeftBy (counter.Held s) = Tries (remainingOf s)
 
-abbrev pub remainingLeft : Log → ℕ → Left
-remainingLeft log credential = remainingIn (getOf log credential)
+abbrev pub triesLeftOf : Log → ℕ → TriesLeft
+triesLeftOf log credential = triesLeftBy (getOf log credential)
 
 -- ---- load: "gives 0 where the log would answer 4 or 5, and the fresh number only if nothing is held and no record exists; 2 and 3 stay refusals"
-abbrev pub loadBy : Bool → ℕ → Left → Told
-loadBy exists fresh (Refused a) = pick (leb 4 (numberOf a)) (told 0) (refusedTold a)
-loadBy exists fresh Nothing = told (pick exists 0 fresh)
-loadBy exists fresh (Tries n) = told n
+abbrev pub loadBy : Bool → ℕ → TriesLeft → Told
+loadBy exists fresh (Refused a) = pick (leb 4 (numberOf a)) (toldOf 0) (toldRefused a)
+loadBy exists fresh Nothing = toldOf (pick exists 0 fresh)
+loadBy exists fresh (Tries n) = toldOf n
 
 abbrev pub loadOf : Log → ℕ → Bool → ℕ → Told
-loadOf log credential exists fresh = loadBy exists fresh (remainingLeft log credential)
+loadOf log credential exists fresh = loadBy exists fresh (triesLeftOf log credential)
 
 -- ---- spend: "it starts from the caller's number where no record is held"
 unfoldable pub startOf : OptRaw → ℕ → CounterState
@@ -94,7 +94,7 @@ advanceOf image log plan seen =
     entered image log plan true (decided valueTag lamport (λ (held : OptRaw) (room : Bool). advanceDecision held room seen))
 
 -- "Numbers returned", of each case
-abbrev pub leftNumber : Left → ℕ
-leftNumber (Refused a) = numberOf a
-leftNumber Nothing = 0
-leftNumber (Tries n) = 0
+abbrev pub triesLeftNumber : TriesLeft → ℕ
+triesLeftNumber (Refused a) = numberOf a
+triesLeftNumber Nothing = 0
+triesLeftNumber (Tries n) = 0

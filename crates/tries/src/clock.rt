@@ -9,7 +9,7 @@ use reads::Told;
 use records::Log;
 ghost use mathlib.Core.Path.{_≡_};
 ghost use Rattle.reads.specs.Reads.{lamportOf};
-ghost use Rattle.decisions.specs.Outcomes.{Meets};
+ghost use Rattle.decisions.specs.Outcomes.{ShowsDone};
 ghost use Rattle.tries.specs.Tries.{seenOf, advanceFrom, advanceOf};
 
 // The highest number of the Lamport clock.
@@ -47,7 +47,7 @@ fn advance_from(most: u64, room: bool) -> Decision
 
 // The next number of the Lamport clock, on flash before this answers.
 pub fn advance_lamport(image: &mut [u8], log: Log, plan: Plan, seen: u64) -> Done
-    ensures { λ r. ⌜ Meets (advanceOf (now (image .entry)) log plan seen) r (now (image .exit)) ⌝ }
+    ensures { λ r. ⌜ ShowsDone (advanceOf (now (image .entry)) log plan seen) r (now (image .exit)) ⌝ }
 {
     let n = flash::sectors(image.len());
     let e = reads::enter(log, n, true, ids::VALUE_TAG, ids::LAMPORT);

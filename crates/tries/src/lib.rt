@@ -15,23 +15,23 @@ use reads::Counter;
 use reads::Told;
 use records::Log;
 ghost use mathlib.Core.Path.{_≡_};
-ghost use Rattle.reads.specs.Reads.{told as toldOf};
-ghost use Rattle.tries.specs.Tries.{remainingLeft, loadOf};
+ghost use Rattle.reads.specs.Reads.{toldOf as toldOf};
+ghost use Rattle.tries.specs.Tries.{triesLeftOf, loadOf};
 
 // The tries left of a credential, where a record of it is held.
-pub enum Left {
+pub enum TriesLeft {
     Refused(Answer),
     Nothing,
     Tries(u8),
 }
 
-pub fn remaining(log: Log, credential: u8) -> Left
-    ensures { λ r. ⌜ r ≡ remainingLeft log credential ⌝ }
+pub fn remaining(log: Log, credential: u8) -> TriesLeft
+    ensures { λ r. ⌜ r ≡ triesLeftOf log credential ⌝ }
 {
     match reads::get(log, credential) {
-        Counter::Refused(answer) => Left::Refused(answer),
-        Counter::Nothing => Left::Nothing,
-        Counter::Held(s) => Left::Tries(s.remaining()),
+        Counter::Refused(answer) => TriesLeft::Refused(answer),
+        Counter::Nothing => TriesLeft::Nothing,
+        Counter::Held(s) => TriesLeft::Tries(s.remaining()),
     }
 }
 
@@ -49,7 +49,7 @@ pub fn load(log: Log, credential: u8, exists: bool, fresh: u8) -> Told
     ensures { λ r. ⌜ r ≡ loadOf log credential exists fresh ⌝ }
 {
     match remaining(log, credential) {
-        Left::Refused(answer) => {
+        TriesLeft::Refused(answer) => {
             if 4 <= basics::number(answer) {
                 return told(0);
             }
@@ -58,12 +58,12 @@ pub fn load(log: Log, credential: u8, exists: bool, fresh: u8) -> Told
                 value: 0,
             }
         }
-        Left::Nothing => {
+        TriesLeft::Nothing => {
             if exists {
                 return told(0);
             }
             told(fresh as u64)
         }
-        Left::Tries(n) => told(n as u64),
+        TriesLeft::Tries(n) => told(n as u64),
     }
 }

@@ -9,7 +9,7 @@ use ids::CounterState;
 use ids::Next;
 use records::Log;
 ghost use mathlib.Core.Path.{_≡_};
-ghost use Rattle.decisions.specs.Outcomes.{Meets};
+ghost use Rattle.decisions.specs.Outcomes.{ShowsDone};
 ghost use Rattle.tries.specs.Tries.{startOf, spendFrom, setDecision, spendOf, setOf};
 
 // The counter that is held, or a fresh one where none is.
@@ -42,7 +42,7 @@ fn spend_from(s: CounterState, room: bool, credential: u8) -> Decision
 
 // One try fewer, on flash before this answers with the tries there were; 0 where there were none, and nothing is written.
 pub fn spend(image: &mut [u8], log: Log, plan: Plan, credential: u8, current: u8) -> Done
-    ensures { λ r. ⌜ Meets (spendOf (now (image .entry)) log plan credential current) r (now (image .exit)) ⌝ }
+    ensures { λ r. ⌜ ShowsDone (spendOf (now (image .entry)) log plan credential current) r (now (image .exit)) ⌝ }
 {
     let n = flash::sectors(image.len());
     let e = reads::enter(
@@ -74,7 +74,7 @@ fn set_decision(held: OptRaw, room: bool, credential: u8, tries: u8) -> Decision
 
 // So many tries from now on; nothing is written where there are so many already.
 pub fn set(image: &mut [u8], log: Log, plan: Plan, credential: u8, tries: u8) -> Done
-    ensures { λ r. ⌜ Meets (setOf (now (image .entry)) log plan credential tries) r (now (image .exit)) ⌝ }
+    ensures { λ r. ⌜ ShowsDone (setOf (now (image .entry)) log plan credential tries) r (now (image .exit)) ⌝ }
 {
     let n = flash::sectors(image.len());
     let e = reads::enter(

@@ -31,7 +31,7 @@ use Rattle.demands.specs.Chance.{cutAt}
 use Rattle.demands.specs.Healthy.{healthy}
 use Rattle.demands.specs.Sessions.{World, opened, Made, outcome, Lasts}
 use Rattle.demands.specs.PulledStick.{triesIn, Has}
-use Rattle.witnesses.specs.Sticks.{pin, pulledAfter, blankStick, newStick, fullStick, unlucky, unluckyStick, logWith, unspent, spent, torn, formatting, spending, refusals}
+use Rattle.witnesses.specs.Sticks.{pin, pulledAfter, blankStick, newStick, fullStick, unlucky, unluckyStick, logWith, unspent, spent, torn, formatting, spendOn, refusals}
 use Rattle.witnesses.specs.Computed.{numbers, Pulled, Spends, Computed}
 
 -- ---- the sticks opened
@@ -76,7 +76,7 @@ pub record Cuts (image : List ℕ) (log : Log) (m : Made) (left : List ℕ) : Ty
 
 -- what a healthy spend answers and counts
 abbrev figures : List ℕ → Log → List ℕ
-figures image log = outcome (spending healthy) (world image log) .value ∷ outcome (spending healthy) (world image log) .flash .programmed ∷ outcome (spending healthy) (world image log) .flash .erased ∷ []
+figures image log = outcome (spendOn healthy) (world image log) .value ∷ outcome (spendOn healthy) (world image log) .flash .programmed ∷ outcome (spendOn healthy) (world image log) .flash .erased ∷ []
 
 pub record Called : Type 0 where
   pub formats : outcome (formatting healthy) (opened blankStick) .flash .image ≡ newStick
@@ -85,14 +85,14 @@ pub record Called : Type 0 where
   pub answers : numbers refusals (world newStick (logWith 1 2 unspent)) ≡ 0 ∷ 6 ∷ 0 ∷ []
   pub appends : figures newStick (logWith 1 2 unspent) ≡ 3 ∷ 16 ∷ 0 ∷ []
   pub commits : figures fullStick (logWith 1 256 unspent) ≡ 3 ∷ 32 ∷ 4096 ∷ []
-  pub in-append : Cuts newStick (logWith 1 2 unspent) (spending (pulledAfter 5)) (torn 0 2 5 (slotOf 1 spent) newStick)
-  pub in-erase : Cuts fullStick (logWith 1 256 unspent) (spending (pulledAfter 100)) fullStick
-  pub in-record : Cuts fullStick (logWith 1 256 unspent) (spending (pulledAfter 4103)) (torn 1 1 7 (slotOf 2 spent) fullStick)
-  pub in-header : Cuts fullStick (logWith 1 256 unspent) (spending (pulledAfter 4117)) (headed 5)
-  pub at-last : Cuts fullStick (logWith 1 256 unspent) (spending (pulledAfter 4127)) (headed 15)
-  pub taken : triesIn pin 3 (outcome (spending (pulledAfter 4128)) (world fullStick (logWith 1 256 unspent)) .log) ≡ 2
-  pub by-chance : Cuts unluckyStick (logWith unlucky 2 unspent) (spending (pulledAfter 8)) (torn 0 2 8 (slotOf unlucky spent) unluckyStick)
-  pub after : outcome (spending healthy) (world unluckyStick (logWith unlucky 2 unspent)) .log ≡ logWith unlucky 3 spent
+  pub in-append : Cuts newStick (logWith 1 2 unspent) (spendOn (pulledAfter 5)) (torn 0 2 5 (slotOf 1 spent) newStick)
+  pub in-erase : Cuts fullStick (logWith 1 256 unspent) (spendOn (pulledAfter 100)) fullStick
+  pub in-record : Cuts fullStick (logWith 1 256 unspent) (spendOn (pulledAfter 4103)) (torn 1 1 7 (slotOf 2 spent) fullStick)
+  pub in-header : Cuts fullStick (logWith 1 256 unspent) (spendOn (pulledAfter 4117)) (headed 5)
+  pub at-last : Cuts fullStick (logWith 1 256 unspent) (spendOn (pulledAfter 4127)) (headed 15)
+  pub taken : triesIn pin 3 (outcome (spendOn (pulledAfter 4128)) (world fullStick (logWith 1 256 unspent)) .log) ≡ 2
+  pub by-chance : Cuts unluckyStick (logWith unlucky 2 unspent) (spendOn (pulledAfter 8)) (torn 0 2 8 (slotOf unlucky spent) unluckyStick)
+  pub after : outcome (spendOn healthy) (world unluckyStick (logWith unlucky 2 unspent)) .log ≡ logWith unlucky 3 spent
 
 pub called : Called
 unfolding blankStick newStick fullStick unluckyStick refusals numbers Lasts formatOf spendOf advanceOf advanceFrom performed heldOf roomFor holds placeOf startOf spendFrom remainingOf failedOf appendOf triesFrom entered entryAnswer sectorsIn logFits allZeros keysFit allAre allKnown seeded placeFrom joined openOf scanOf bestFrom headerOf slotAt same commitFrom writeSector erase sectorAt withSector writeRecords program withSlot landed slotOf crcUnder crc32Of feed eat turns turn finished leBytes leNumber headerSlot
@@ -148,8 +148,8 @@ computed = record {
   in-record = pulled fullStick _ _ _ 3 (opens .full) (called .in-record) (opens-torn .rec);
   in-header = pulled fullStick _ _ _ 3 (opens .full) (called .in-header) (opens-headed .0);
   at-last = pulled fullStick _ _ _ 3 (opens .full) (called .at-last) (opens-headed .1);
-  taken = ap (λ (l : Log). triesIn pin 3 (outcome (spending (pulledAfter 4128)) (world fullStick l) .log)) (opens .full) ∙ called .taken;
+  taken = ap (λ (l : Log). triesIn pin 3 (outcome (spendOn (pulledAfter 4128)) (world fullStick l) .log)) (opens .full) ∙ called .taken;
   by-chance = pulled unluckyStick _ _ _ 0 (opens .chance) (called .by-chance) (ap (triesIn pin 3) (opens-torn .chance) ∙ remaining .none unlucky 3);
   before = ap (triesIn pin 3) (opens .chance) ∙ remaining .all unlucky 2;
-  after = ap (λ (l : Log). triesIn pin 3 (outcome (spending healthy) (world unluckyStick l) .log)) (opens .chance) ∙ ap (triesIn pin 3) (called .after) ∙ remaining .one-fewer unlucky 3;
+  after = ap (λ (l : Log). triesIn pin 3 (outcome (spendOn healthy) (world unluckyStick l) .log)) (opens .chance) ∙ ap (triesIn pin 3) (called .after) ∙ remaining .one-fewer unlucky 3;
 }

@@ -23,9 +23,9 @@ use Rattle.demands.specs.Sessions.{opened, played, AllTyped, Lasts}
 use Rattle.demands.specs.Demand3.{FindsAgain}
 use Rattle.demands.specs.PulledStick.{woken, Lucky, triesIn, NoneSets, KeepsCount}
 use Rattle.demands.proofs.Demand3.{demand-3-powered}
-use Rattle.demands.proofs.Spends.{pulled-stick}
+use Rattle.demands.proofs.PulledStickSpends.{pulled-stick}
 use Rattle.demands.proofs.PulledStick.{pulled-session}
-use Rattle.witnesses.specs.Sticks.{pin, newStick, fullStick, spent, spending, refusals}
+use Rattle.witnesses.specs.Sticks.{pin, newStick, fullStick, spent, spendOn, refusals}
 use Rattle.witnesses.proofs.Computed.{opens, computed}
 
 -- ---- the sticks are bytes, and the calls have their types
@@ -81,18 +81,18 @@ clash (suc (suc (suc (suc (suc (suc (suc (suc (suc (suc (suc (suc k)))))))))))) 
 unmatched : ChanceMatch 1 (slotOf 1 spent) → ⊥
 unmatched m = false≢true (sym (clash (m .k) (m .low) (m .high)) ∙ eq-eqb (crcUnder 1 (take 12 (cutAt (m .k) (slotOf 1 spent)))) 0xFFFF_FFFF (m .matches))
 
-new-lucky : (plan : Plan) → Lucky (opened newStick) (spending plan)
+new-lucky : (plan : Plan) → Lucky (opened newStick) (spendOn plan)
 unfolding heldOf holds placeOf startOf leNumber leBytes
-new-lucky plan _ = subst (λ (l : Log). NoChance (spending plan .call) newStick l plan) (sym (opens .new)) (λ h low high m e. unmatched m)
+new-lucky plan _ = subst (λ (l : Log). NoChance (spendOn plan .call) newStick l plan) (sym (opens .new)) (λ h low high m e. unmatched m)
 
 -- a full sector has no slot to append to
-full-lucky : (plan : Plan) → Lucky (opened fullStick) (spending plan)
-full-lucky plan _ = subst (λ (l : Log). NoChance (spending plan .call) fullStick l plan) (sym (opens .full)) (λ h low high m e. omega (arith, low, high))
+full-lucky : (plan : Plan) → Lucky (opened fullStick) (spendOn plan)
+full-lucky plan _ = subst (λ (l : Log). NoChance (spendOn plan .call) fullStick l plan) (sym (opens .full)) (λ h low high m e. omega (arith, low, high))
 
 -- ---- so the statements speak of these sticks, wherever a spend is cut: each wakes with three tries or two
 module _ (plan : Plan) where
   abbrev KeepsOrTakes : List ℕ → Type 0
-  KeepsOrTakes stick = (triesIn pin 3 (woken (opened stick) (spending plan)) ≡ triesIn pin 3 (opened stick .log)) ⊎ (triesIn pin 3 (woken (opened stick) (spending plan)) + 1 ≡ triesIn pin 3 (opened stick .log))
+  KeepsOrTakes stick = (triesIn pin 3 (woken (opened stick) (spendOn plan)) ≡ triesIn pin 3 (opened stick .log)) ⊎ (triesIn pin 3 (woken (opened stick) (spendOn plan)) + 1 ≡ triesIn pin 3 (opened stick .log))
 
   pub new-wakes : KeepsOrTakes newStick
   unfolding played

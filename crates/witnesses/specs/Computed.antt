@@ -7,7 +7,7 @@ use Rattle.basics.specs.Answers.{numberOf}
 use Rattle.demands.specs.Healthy.{healthy}
 use Rattle.demands.specs.Sessions.{World, opened, Made, outcome, afterwards, Lasts}
 use Rattle.demands.specs.PulledStick.{triesIn, Has, woken}
-use Rattle.witnesses.specs.Sticks.{pin, pulledAfter, blankStick, newStick, fullStick, unluckyStick, formatting, spending, refusals}
+use Rattle.witnesses.specs.Sticks.{pin, pulledAfter, blankStick, newStick, fullStick, unluckyStick, formatting, spendOn, refusals}
 
 -- the numbers that a session's calls answer
 unfoldable pub numbers : List Made → World → List ℕ
@@ -21,9 +21,9 @@ pub record Pulled (image : List ℕ) (m : Made) (tries : ℕ) : Type 0 where
 
 -- a spend on a healthy flash: the tries before it, and what it programs and erases
 pub record Spends (image : List ℕ) (programmed erased : ℕ) : Type 0 where
-  pub value : outcome (spending healthy) (opened image) .value ≡ 3
-  pub programmed-is : outcome (spending healthy) (opened image) .flash .programmed ≡ programmed
-  pub erased-is : outcome (spending healthy) (opened image) .flash .erased ≡ erased
+  pub value : outcome (spendOn healthy) (opened image) .value ≡ 3
+  pub programmed-is : outcome (spendOn healthy) (opened image) .flash .programmed ≡ programmed
+  pub erased-is : outcome (spendOn healthy) (opened image) .flash .erased ≡ erased
 
 pub record Computed : Type 0 where
   -- a format makes the new stick, which opens with three tries
@@ -36,16 +36,16 @@ pub record Computed : Type 0 where
   pub appends : Spends newStick 16 0
   pub commits : Spends fullStick 32 4096
   -- a spend that is cut in the middle of an append
-  pub in-append : Pulled newStick (spending (pulledAfter 5)) 3
+  pub in-append : Pulled newStick (spendOn (pulledAfter 5)) 3
   -- a spend on a full sector, cut in the middle of the other sector's erase, of its record, and of its header
-  pub in-erase : Pulled fullStick (spending (pulledAfter 100)) 3
-  pub in-record : Pulled fullStick (spending (pulledAfter 4103)) 3
-  pub in-header : Pulled fullStick (spending (pulledAfter 4117)) 3
+  pub in-erase : Pulled fullStick (spendOn (pulledAfter 100)) 3
+  pub in-record : Pulled fullStick (spendOn (pulledAfter 4103)) 3
+  pub in-header : Pulled fullStick (spendOn (pulledAfter 4117)) 3
   -- and one byte before its end: the header's last byte is missing
-  pub at-last : Pulled fullStick (spending (pulledAfter 4127)) 3
+  pub at-last : Pulled fullStick (spendOn (pulledAfter 4127)) 3
   -- with power for all of it one try is taken
-  pub taken : triesIn pin 3 (outcome (spending (pulledAfter 4128)) (opened fullStick) .log) ≡ 2
+  pub taken : triesIn pin 3 (outcome (spendOn (pulledAfter 4128)) (opened fullStick) .log) ≡ 2
   -- a spend that is cut just where its slot matches by chance: three tries were held, two should be left
-  pub by-chance : Pulled unluckyStick (spending (pulledAfter 8)) 0
+  pub by-chance : Pulled unluckyStick (spendOn (pulledAfter 8)) 0
   pub before : triesIn pin 3 (opened unluckyStick .log) ≡ 3
-  pub after : triesIn pin 3 (outcome (spending healthy) (opened unluckyStick) .log) ≡ 2
+  pub after : triesIn pin 3 (outcome (spendOn healthy) (opened unluckyStick) .log) ≡ 2

@@ -74,9 +74,9 @@ torn s k j slot image = withSlot s k (cutAt j slot) image
 abbrev pub formatting : Plan → Made
 formatting plan = made (format (record { credential = pin; state = three } ∷ []) 1) plan
 
-abbrev pub spending : Plan → Made
-spending plan = made (spend pin 3) plan
+abbrev pub spendOn : Plan → Made
+spendOn plan = made (spend pin 3) plan
 
 -- a spend in the third slot that it tries, one that is refused every slot, and a Lamport number in its second
 unfoldable pub refusals : List Made
-refusals = spending (refusing 2) ∷ spending (refusing 3) ∷ made (advance-lamport 7) (refusing 1) ∷ []
+refusals = spendOn (refusing 2) ∷ spendOn (refusing 3) ∷ made (advance-lamport 7) (refusing 1) ∷ []

@@ -7,8 +7,8 @@ use native.Mathlib.Omega.{arith}
 use lib.ListN.{length, getD}
 use Rattle.basics.specs.Lists.{same, allAre}
 use Rattle.basics.specs.Little.{leBytes, leNumber}
-use Rattle.basics.proofs.Choice.{first, second}
-use Rattle.basics.proofs.Lists.{same-eq}
+use Rattle.basics.proofs.ChoiceLaws.{first, second}
+use Rattle.basics.proofs.ListsLaws.{same-eq}
 use Rattle.crc.specs.Register.{turn, turns, eat, feed, finished, crc32Of}
 use Rattle.ids.specs.Ids.{isMonotonic}
 use Rattle.ids.specs.Counters.{remainingOf}

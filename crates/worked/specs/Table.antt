@@ -34,14 +34,14 @@ abbrev row : List ℕ → List ℕ → Row
 row given said = record { given = given; said = said }
 
 -- a put of 4 where 5 is held: a blank sector, and a log with that one record
-abbrev holding : ℕ → Log
-holding id = logOf (Active 0 1 1) 2 (valueRecord id 5 ∷ [])
+abbrev holdsFive : ℕ → Log
+holdsFive id = logOf (Active 0 1 1) 2 (valueRecord id 5 ∷ [])
 
 abbrev calm : Plan
 calm = record { limited = false; units = 0; «refuse_erase» = false; «refuse_programs» = 0 }
 
 abbrev fourOver : ℕ → Outcome
-fourOver id = putValueOf (replicate 4096 0xFF) (holding id) calm id 4
+fourOver id = putValueOf (replicate 4096 0xFF) (holdsFive id) calm id 4
 
 abbrev valueHeld : Raw → ℕ
 valueHeld r = valueIn (r .body)

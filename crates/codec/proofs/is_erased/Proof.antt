@@ -7,8 +7,8 @@ use lib.Bits.{and-le-l}
 use lib.Dec.{eqb}
 use lib.ListN.{length, drop, getD}
 use Rattle.basics.specs.Lists.{allAre}
-use Rattle.basics.proofs.Lists.{all-step, all-end}
-use Rattle.codec.proofs.Laws.{and-full}
+use Rattle.basics.proofs.ListsLaws.{all-step, all-end}
+use Rattle.codec.proofs.SlotsLaws.{and-full}
 use Rattle.codec.proofs.is_erased.Statement.{statement}
 use Rattle.codec.proofs.is_erased.Tie as tie
 

@@ -1,7 +1,7 @@
 -- `crc::crc32_ieee` meets its contract.
 use borrow.Author.Needs.{needs}
-use Rattle.basics.proofs.Lists.{bytes-all}
-use Rattle.crc.proofs.Check.{crc-check}
+use Rattle.basics.proofs.ListsLaws.{bytes-all}
+use Rattle.crc.proofs.IeeeCheck.{crc-check}
 use Rattle.crc.proofs.crc32_ieee.Statement.{statement}
 use Rattle.crc.proofs.crc32_ieee.Tie as tie
 

@@ -4,7 +4,7 @@ use Prim.Native.Nat.{_-_, _≤_}
 use native.Mathlib.Omega.{arith}
 use lib.ListN.{length, drop}
 use Rattle.crc.specs.Register.{feed}
-use Rattle.crc.proofs.Running.{feed-step, feed-end}
+use Rattle.crc.proofs.RegisterRunning.{feed-step, feed-end}
 use Rattle.crc.proofs.update.Statement.{statement}
 use Rattle.crc.proofs.update.Tie as tie
 

@@ -18,11 +18,11 @@ use Rattle.host.proofs.advance_lamport.Key as key
 use Rattle.host.proofs.advance_lamport as advance-lamport
 use Rattle.host.proofs.advance_lamport.Statement as stated
 use Rattle.host.proofs.advance_lamport.Code as code
-use Rattle.host.proofs.lent.InPlace.{Lending, Read}
-use Rattle.host.proofs.lent.Plain.{uint-single}
-use Rattle.host.proofs.lent.Lends.{Called}
-use Rattle.host.proofs.lent.OneMore.{meets}
-use Rattle.host.proofs.Calls.{done, log-call}
+use Rattle.host.proofs.LentInPlace.{Lending, Read}
+use Rattle.host.proofs.LentPlain.{uint-single}
+use Rattle.host.proofs.LentWalks.{Called}
+use Rattle.host.proofs.LentOneMore.{meets}
+use Rattle.host.proofs.LentCallsLaws.{done, log-call}
 
 abbrev Rs : List RattleType
 Rs = u64 ∷ []

@@ -21,11 +21,11 @@ use Rattle.host.proofs.format.Key as key
 use Rattle.host.proofs.format as format
 use Rattle.host.proofs.format.Statement as stated
 use Rattle.host.proofs.format.Code as code
-use Rattle.host.proofs.lent.InPlace.{Lending, Read}
-use Rattle.host.proofs.lent.Plain.{array-single, struct-single, uint-single}
-use Rattle.host.proofs.lent.Lends.{Called}
-use Rattle.host.proofs.lent.TwoMore.{meets}
-use Rattle.host.proofs.Calls.{done, log-call}
+use Rattle.host.proofs.LentInPlace.{Lending, Read}
+use Rattle.host.proofs.LentPlain.{array-single, struct-single, uint-single}
+use Rattle.host.proofs.LentWalks.{Called}
+use Rattle.host.proofs.LentTwoMore.{meets}
+use Rattle.host.proofs.LentCallsLaws.{done, log-call}
 
 abbrev Rs : List RattleType
 Rs = Array Seed.the-row 8 ∷ usize ∷ []

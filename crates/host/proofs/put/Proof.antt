@@ -20,11 +20,11 @@ use Rattle.host.proofs.put.Key as key
 use Rattle.host.proofs.put as put
 use Rattle.host.proofs.put.Statement as stated
 use Rattle.host.proofs.put.Code as code
-use Rattle.host.proofs.lent.InPlace.{Lending, Read}
-use Rattle.host.proofs.lent.Plain.{struct-single, uint-single}
-use Rattle.host.proofs.lent.Lends.{Called}
-use Rattle.host.proofs.lent.TwoMore.{meets}
-use Rattle.host.proofs.Calls.{done, log-call}
+use Rattle.host.proofs.LentInPlace.{Lending, Read}
+use Rattle.host.proofs.LentPlain.{struct-single, uint-single}
+use Rattle.host.proofs.LentWalks.{Called}
+use Rattle.host.proofs.LentTwoMore.{meets}
+use Rattle.host.proofs.LentCallsLaws.{done, log-call}
 
 abbrev Rs : List RattleType
 Rs = u8 ∷ CounterState.the-row ∷ []

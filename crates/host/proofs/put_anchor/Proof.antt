@@ -18,11 +18,11 @@ use Rattle.host.proofs.put_anchor.Key as key
 use Rattle.host.proofs.put_anchor as put-anchor
 use Rattle.host.proofs.put_anchor.Statement as stated
 use Rattle.host.proofs.put_anchor.Code as code
-use Rattle.host.proofs.lent.InPlace.{Lending, Read}
-use Rattle.host.proofs.lent.Plain.{struct-single}
-use Rattle.host.proofs.lent.Lends.{Called}
-use Rattle.host.proofs.lent.OneMore.{meets}
-use Rattle.host.proofs.Calls.{done, log-call}
+use Rattle.host.proofs.LentInPlace.{Lending, Read}
+use Rattle.host.proofs.LentPlain.{struct-single}
+use Rattle.host.proofs.LentWalks.{Called}
+use Rattle.host.proofs.LentOneMore.{meets}
+use Rattle.host.proofs.LentCallsLaws.{done, log-call}
 
 abbrev Rs : List RattleType
 Rs = Anchor.the-row ∷ []

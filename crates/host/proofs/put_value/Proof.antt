@@ -18,11 +18,11 @@ use Rattle.host.proofs.put_value.Key as key
 use Rattle.host.proofs.put_value as put-value
 use Rattle.host.proofs.put_value.Statement as stated
 use Rattle.host.proofs.put_value.Code as code
-use Rattle.host.proofs.lent.InPlace.{Lending, Read}
-use Rattle.host.proofs.lent.Plain.{uint-single}
-use Rattle.host.proofs.lent.Lends.{Called}
-use Rattle.host.proofs.lent.TwoMore.{meets}
-use Rattle.host.proofs.Calls.{done, log-call}
+use Rattle.host.proofs.LentInPlace.{Lending, Read}
+use Rattle.host.proofs.LentPlain.{uint-single}
+use Rattle.host.proofs.LentWalks.{Called}
+use Rattle.host.proofs.LentTwoMore.{meets}
+use Rattle.host.proofs.LentCallsLaws.{done, log-call}
 
 abbrev Rs : List RattleType
 Rs = u8 ∷ u64 ∷ []

@@ -8,16 +8,16 @@ use lib.ListN.{length, length-append}
 use lib.Pow.{areBytes}
 use borrow.Author.Needs.{needs}
 use borrow.Author.Tests.{not-true, not-false}
-use Rattle.basics.proofs.Lists.{bytes-all}
+use Rattle.basics.proofs.ListsLaws.{bytes-all}
 use Rattle.records.specs.declared.State.{State}
 use Rattle.records.specs.declared.State.the-variants.{Unformatted, Failed, Active}
 use Rattle.records.specs.Logs.{recordsOf}
 use Rattle.scan.specs.declared.Opened.{Opened}
 use Rattle.text.specs.Text.{Puts}
-use Rattle.text.proofs.Putting.{Begun, begun, put-none, room-left, next, last}
+use Rattle.text.proofs.TextPutting.{Begun, begun, put-none, room-left, next, last}
 use Rattle.list.specs.Listing.{activeLine, recordLines, stateListing, badImage, longest, listingIn}
-use Rattle.list.proofs.Bounds.{Fits, opened-fits}
-use Rattle.list.proofs.Cases.{too-short, no-image, in-state}
+use Rattle.list.proofs.ListingBounds.{Fits, opened-fits}
+use Rattle.list.proofs.ListingCases.{too-short, no-image, in-state}
 use Rattle.list.proofs.list.Statement.{statement}
 use Rattle.list.proofs.list.Tie as tie
 

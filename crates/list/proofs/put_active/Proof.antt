@@ -4,7 +4,7 @@ use Prim.Native.Nat.{ℕ, _+_, _≤_}
 use native.Mathlib.Omega.{arith}
 use lib.ListN.{length}
 use borrow.Author.Needs.{needs}
-use Rattle.text.proofs.Putting.{Begun, begun, room-left, piece-fits, next, last}
+use Rattle.text.proofs.TextPutting.{Begun, begun, room-left, piece-fits, next, last}
 use Rattle.list.specs.Listing.{number, line, activeLine}
 use Rattle.list.proofs.put_active.Statement.{statement}
 use Rattle.list.proofs.put_active.Tie as tie

@@ -4,7 +4,7 @@ use native.Mathlib.Omega.{arith}
 use lib.ListN.{length-append}
 use borrow.Author.Needs.{needs}
 use Rattle.text.specs.Text.{decimal}
-use Rattle.text.proofs.Putting.{Begun, begun, room-left, next, last}
+use Rattle.text.proofs.TextPutting.{Begun, begun, room-left, next, last}
 use Rattle.list.specs.Listing.{number}
 use Rattle.list.proofs.put_number.Statement.{statement}
 use Rattle.list.proofs.put_number.Tie as tie

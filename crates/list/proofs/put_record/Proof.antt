@@ -4,10 +4,10 @@ use mathlib.Core.List.{List, _++_}
 use Prim.Native.Nat.{ℕ, _+_, _-_, _≤_}
 use native.Mathlib.Omega.{arith}
 use lib.ListN.{length, getD, length-append}
-use Rattle.codec.proofs.Owned.{ten}
-use Rattle.text.proofs.Putting.{Begun, begun, room-left, same-room, piece-fits, next, last}
+use Rattle.codec.proofs.SlotsOwned.{ten}
+use Rattle.text.proofs.TextPutting.{Begun, begun, room-left, same-room, piece-fits, next, last}
 use Rattle.list.specs.Listing.{number, line, recordLine}
-use Rattle.list.proofs.Lines.{lineFrom, line-all, line-step, line-end}
+use Rattle.list.proofs.ListingLines.{lineFrom, line-all, line-step, line-end}
 use Rattle.list.proofs.put_record.Statement.{statement}
 use Rattle.list.proofs.put_record.Tie as tie
 

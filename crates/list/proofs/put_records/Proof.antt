@@ -6,10 +6,10 @@ use native.Mathlib.Omega.{arith}
 use lib.ListN.{length, getD, take, drop}
 use lib.Seq.{length-take-le, getD-take}
 use Rattle.codec.specs.declared.Raw.{Raw}
-use Rattle.records.proofs.Joining.{nowhere}
-use Rattle.text.proofs.Putting.{Begun, begun, same-room, piece-fits, next, ended}
+use Rattle.records.proofs.TableJoining.{nowhere}
+use Rattle.text.proofs.TextPutting.{Begun, begun, same-room, piece-fits, next, ended}
 use Rattle.list.specs.Listing.{recordLine, recordLines}
-use Rattle.list.proofs.Lines.{lines-step, lines-end}
+use Rattle.list.proofs.ListingLines.{lines-step, lines-end}
 use Rattle.list.proofs.put_records.Statement.{statement}
 use Rattle.list.proofs.put_records.Tie as tie
 

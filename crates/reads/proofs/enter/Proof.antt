@@ -11,13 +11,13 @@ use Rattle.records.specs.Table.{limit, placeOf}
 use Rattle.records.specs.Logs.{recordsOf}
 use Rattle.records.specs.Fitting.{logFits}
 use Rattle.records.specs.declared.fitting.Looked.{Looked}
-use Rattle.records.proofs.fitting.Owned.{whole-log}
-use Rattle.records.proofs.fitting.Laws.{fits-clauses, records-length}
-use Rattle.records.proofs.fitting.Looking.{looked-fits, looked-found}
+use Rattle.records.proofs.LogsOwned.{whole-log}
+use Rattle.records.proofs.FittingLaws.{fits-clauses, records-length}
+use Rattle.records.proofs.FittingLooking.{looked-fits, looked-found}
 use Rattle.basics.specs.declared.Answer.the-variants.{Done, BadImage, BadLog, BadId}
 use Rattle.codec.specs.declared.OptRaw.{OptRaw}
 use Rattle.reads.specs.declared.Entry.{Entry}
-use Rattle.reads.proofs.Entering.{answer-no-image, answer-bad-log, answer-bad-id, answer-done, entry-by, held-at, room-at}
+use Rattle.reads.proofs.EnteringLaws.{answer-no-image, answer-bad-log, answer-bad-id, answer-done, entry-by, held-at, room-at}
 use borrow.Author.Needs.{needs}
 use Rattle.reads.proofs.enter.Statement.{statement}
 use Rattle.reads.proofs.enter.Tie as tie

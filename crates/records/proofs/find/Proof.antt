@@ -7,7 +7,7 @@ use native.Mathlib.Omega.{arith}
 use lib.ListN.{length, take}
 use lib.Seq.{length-take-le, getD-take}
 use Rattle.records.specs.Table.{keyPlace}
-use Rattle.records.proofs.Finding.{found, found-end, found-here, found-past-tag, found-past-id}
+use Rattle.records.proofs.TableFinding.{found, found-end, found-here, found-past-tag, found-past-id}
 use Rattle.records.proofs.find.Statement.{statement}
 use Rattle.records.proofs.find.Tie as tie
 

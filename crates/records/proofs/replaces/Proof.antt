@@ -1,6 +1,6 @@
 -- `records::replaces` meets its contract.
 use mathlib.Core.Path.{sym, _∙_}
-use Rattle.basics.proofs.Choice.{not-ltb}
+use Rattle.basics.proofs.ChoiceLaws.{not-ltb}
 use Rattle.records.specs.Table.{falls}
 use borrow.Author.Needs.{needs}
 use Rattle.records.proofs.replaces.Statement.{statement}

@@ -1,7 +1,7 @@
 -- `scan::better_of` meets its contract.
 use mathlib.Core.Path.{sym}
 use borrow.Author.Tests.{lt-ltb, le-ltb}
-use Rattle.scan.proofs.Choosing.{better-none}
+use Rattle.scan.proofs.ChoosingLaws.{better-none}
 use borrow.Author.Needs.{needs}
 use Rattle.scan.proofs.better_of.Statement.{statement}
 use Rattle.scan.proofs.better_of.Tie as tie

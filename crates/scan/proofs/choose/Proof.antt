@@ -4,7 +4,7 @@ use Prim.Native.Nat.{_+_, _-_, _≤_}
 use native.Mathlib.Omega.{arith}
 use Rattle.codec.specs.Slots.{headerOf}
 use Rattle.scan.specs.Choosing.{better, bestFrom, headerAt, chosenOf}
-use Rattle.scan.proofs.Choosing.{best-end, best-step}
+use Rattle.scan.proofs.ChoosingLaws.{best-end, best-step}
 use Rattle.scan.proofs.choose.Statement.{statement}
 use Rattle.scan.proofs.choose.Tie as tie
 

@@ -2,8 +2,8 @@
 use mathlib.Core.Path.{sym, ap}
 use native.Mathlib.Omega.{arith}
 use Rattle.flash.specs.Run.{Stepped}
-use Rattle.flash.proofs.Charging.{to-program-most}
-use Rattle.flash.proofs.Steps.{program-run}
+use Rattle.flash.proofs.PowerLaws.{to-program-most}
+use Rattle.flash.proofs.RunLaws.{program-run}
 use Rattle.sectors.specs.Shown.{flashWith, usedOf}
 use borrow.Author.Needs.{needs}
 use Rattle.sectors.proofs.program.Statement.{statement}

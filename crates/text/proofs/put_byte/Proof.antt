@@ -1,6 +1,6 @@
 -- `text::put_byte` meets its contract.
 use borrow.Author.Needs.{needs}
-use Rattle.text.proofs.Putting.{put-one}
+use Rattle.text.proofs.TextPutting.{put-one}
 use Rattle.text.proofs.put_byte.Statement.{statement}
 use Rattle.text.proofs.put_byte.Tie as tie
 

@@ -6,7 +6,7 @@ use native.Mathlib.Numerals.{add-one}
 use native.Mathlib.Omega.{arith}
 use lib.ListN.{length, drop, length-drop, drop-of-length-le}
 use lib.Seq.{drop-cons}
-use Rattle.text.proofs.Putting.{Begun, begun, next, ended, put-one, same-room, room-left}
+use Rattle.text.proofs.TextPutting.{Begun, begun, next, ended, put-one, same-room, room-left}
 use Rattle.text.proofs.put_bytes.Statement.{statement}
 use Rattle.text.proofs.put_bytes.Tie as tie
 

@@ -4,15 +4,15 @@ use mathlib.Core.Bool.{Bool}
 use lib.Dec.{leb}
 use borrow.Author.Tests.{le-leb, lt-leb}
 use Rattle.basics.specs.Choice.{pick}
-use Rattle.reads.specs.Reads.{told, refusedTold}
-use Rattle.tries.specs.declared.Left.{Left}
+use Rattle.reads.specs.Reads.{toldOf, toldRefused}
+use Rattle.tries.specs.declared.TriesLeft.{TriesLeft}
 use Rattle.tries.specs.Tries.{loadBy, loadOf}
 use borrow.Author.Needs.{needs}
 use Rattle.tries.proofs.load.Statement.{statement}
 use Rattle.tries.proofs.load.Tie as tie
 
 -- what is loaded, by what is left
-by : (r : tie.After-remaining) (x : Left) → r .remaining .result ≡ x → let a = r .before .args in loadBy (a .exists) (a .fresh) x ≡ loadOf (a .log) (a .credential) (a .exists) (a .fresh)
+by : (r : tie.After-remaining) (x : TriesLeft) → r .remaining .result ≡ x → let a = r .before .args in loadBy (a .exists) (a .fresh) x ≡ loadOf (a .log) (a .credential) (a .exists) (a .fresh)
 by r x e = let a = r .before .args in ap (loadBy (a .exists) (a .fresh)) (sym e ∙ r .remaining .ensures)
 
 remaining-requires : tie.Need-remaining-requires
@@ -33,7 +33,7 @@ returns c =
     let w = n .before .before in
     let a = w .answer .given .0 .0 in
     c .told .ensures
-    ∙ sym (ap (λ (b : Bool). pick b (told 0) (refusedTold a)) (ap (leb 4) (sym (n .number .ensures)) ∙ le-leb 4 (n .number .result) (c .before .if1 .taken)))
+    ∙ sym (ap (λ (b : Bool). pick b (toldOf 0) (toldRefused a)) (ap (leb 4) (sym (n .number .ensures)) ∙ le-leb 4 (n .number .result) (c .before .if1 .taken)))
     ∙ by (w .before .before) _ (w .answer .given .1)
 
 enum-told : tie.Need-enum-told
@@ -47,7 +47,7 @@ returns-2 c =
     let m = c .before .before in
     let r = m .before .before in
     c .told2 .ensures
-    ∙ sym (ap (λ (b : Bool). told (pick b 0 (r .before .args .fresh))) (c .before .if2 .taken))
+    ∙ sym (ap (λ (b : Bool). toldOf (pick b 0 (r .before .args .fresh))) (c .before .if2 .taken))
     ∙ by r _ (m .enum-told .given .1)
 
 told-requires-3 : tie.Need-told-requires-3
@@ -67,7 +67,7 @@ returns-3 c =
     let n = c .before in
     let w = n .before .before in
     let a = w .answer .given .0 .0 in
-    sym (ap (λ (b : Bool). pick b (told 0) (refusedTold a)) (ap (leb 4) (sym (n .number .ensures)) ∙ lt-leb 4 (n .number .result) (c .if1 .left)))
+    sym (ap (λ (b : Bool). pick b (toldOf 0) (toldRefused a)) (ap (leb 4) (sym (n .number .ensures)) ∙ lt-leb 4 (n .number .result) (c .if1 .left)))
     ∙ by (w .before .before) _ (w .answer .given .1)
 
 returns-4 : tie.Need-returns-4
@@ -75,7 +75,7 @@ returns-4 c =
     let m = c .before .before in
     let r = m .before .before in
     c .told3 .ensures
-    ∙ sym (ap (λ (b : Bool). told (pick b 0 (r .before .args .fresh))) (c .before .if2 .left))
+    ∙ sym (ap (λ (b : Bool). toldOf (pick b 0 (r .before .args .fresh))) (c .before .if2 .left))
     ∙ by r _ (m .enum-told .given .1)
 
 returns-5 : tie.Need-returns-5

@@ -1,7 +1,7 @@
 -- `tries::remaining` meets its contract.
 use mathlib.Core.Path.{sym, ap, _∙_}
-use Rattle.tries.specs.declared.Left.the-variants.{Tries}
-use Rattle.tries.specs.Tries.{remainingIn}
+use Rattle.tries.specs.declared.TriesLeft.the-variants.{Tries}
+use Rattle.tries.specs.Tries.{triesLeftBy}
 use borrow.Author.Needs.{needs}
 use Rattle.tries.proofs.remaining.Statement.{statement}
 use Rattle.tries.proofs.remaining.Tie as tie
@@ -22,15 +22,15 @@ remaining-requires : tie.Need-remaining-requires
 remaining-requires c κs = search needs
 
 returns : tie.Need-returns
-returns c = ap remainingIn (sym (c .before .answer .given .1) ∙ c .before .before .before .get .ensures)
+returns c = ap triesLeftBy (sym (c .before .answer .given .1) ∙ c .before .before .before .get .ensures)
 
 returns-2 : tie.Need-returns-2
-returns-2 c = ap remainingIn (sym (c .enum-told .given .1) ∙ c .before .before .get .ensures)
+returns-2 c = ap triesLeftBy (sym (c .enum-told .given .1) ∙ c .before .before .get .ensures)
 
 returns-3 : tie.Need-returns-3
 returns-3 c =
     let s = c .before .before in
-    ap Tries (c .remaining .ensures) ∙ ap remainingIn (sym (s .s .given .1) ∙ s .before .before .get .ensures)
+    ap Tries (c .remaining .ensures) ∙ ap triesLeftBy (sym (s .s .given .1) ∙ s .before .before .get .ensures)
 
 pub remaining-spec : {M : Type 1} → statement M
 remaining-spec =

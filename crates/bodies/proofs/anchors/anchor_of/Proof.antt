@@ -2,8 +2,8 @@
 use mathlib.Core.Path.{ap₂, _∙_}
 use Prim.Native.Nat.{ℕ, _+_, _*_}
 use native.Mathlib.Omega.{arith}
-use Rattle.codec.proofs.Owned.{ten}
-use Rattle.bodies.proofs.Fields.{field, field6}
+use Rattle.codec.proofs.SlotsOwned.{ten}
+use Rattle.bodies.proofs.BodiesFields.{field, field6}
 use borrow.Author.Needs.{needs}
 use Rattle.bodies.proofs.anchors.anchor_of.Statement.{statement}
 use Rattle.bodies.proofs.anchors.anchor_of.Tie as tie

@@ -3,8 +3,8 @@ use lib.ListN.{getD}
 use mathlib.Core.Path.{ap₂, _∙_}
 use Prim.Native.Nat.{ℕ}
 use native.Mathlib.Omega.{arith}
-use Rattle.codec.proofs.Owned.{ten}
-use Rattle.bodies.proofs.Fields.{field}
+use Rattle.codec.proofs.SlotsOwned.{ten}
+use Rattle.bodies.proofs.BodiesFields.{field}
 use borrow.Author.Needs.{needs}
 use Rattle.bodies.proofs.counters.counter_of.Statement.{statement}
 use Rattle.bodies.proofs.counters.counter_of.Tie as tie

@@ -1,8 +1,8 @@
 -- `bodies::values::value_of` meets its contract.
 use mathlib.Core.Path.{ap₂, _∙_}
 use Prim.Native.Nat.{ℕ, _+_, _*_}
-use Rattle.codec.proofs.Owned.{ten}
-use Rattle.bodies.proofs.Fields.{field8}
+use Rattle.codec.proofs.SlotsOwned.{ten}
+use Rattle.bodies.proofs.BodiesFields.{field8}
 use borrow.Author.Needs.{needs}
 use Rattle.bodies.proofs.values.value_of.Statement.{statement}
 use Rattle.bodies.proofs.values.value_of.Tie as tie

@@ -1,6 +1,6 @@
 -- `codec::checksum::carried` meets its contract.
 use mathlib.Core.Path.{ap, _∙_}
-use Rattle.basics.proofs.Lists.{read-part}
+use Rattle.basics.proofs.ListsLaws.{read-part}
 use native.Mathlib.Omega.{arith}
 use Rattle.basics.specs.Little.{leNumber}
 use borrow.Author.Needs.{needs}

@@ -8,11 +8,11 @@ use lib.ListN.{take}
 use borrow.Author.Needs.{needs}
 use borrow.Author.Tests.{eq-eqb, ne-eqb, not-true, not-false}
 use Rattle.basics.specs.Little.{leNumber}
-use Rattle.basics.proofs.Lists.{read-part}
+use Rattle.basics.proofs.ListsLaws.{read-part}
 use Rattle.crc.specs.Register.{crc32Of}
 use Rattle.codec.specs.declared.Header.the-variants.{Valid}
 use Rattle.codec.specs.Slots.{crcFrom, headerOf, magicAt}
-use Rattle.codec.proofs.Laws.{from-start}
+use Rattle.codec.proofs.SlotsLaws.{from-start}
 use Rattle.codec.proofs.headers.decode_header.Statement.{statement}
 use Rattle.codec.proofs.headers.decode_header.Tie as tie
 

@@ -1,6 +1,6 @@
 -- `codec::headers::has_magic` meets its contract.
 use borrow.Author.Tests.{eq-eqb, ne-eqb}
-use Rattle.codec.proofs.Laws.{magic-read}
+use Rattle.codec.proofs.SlotsLaws.{magic-read}
 use borrow.Author.Needs.{needs}
 use Rattle.codec.proofs.headers.has_magic.Statement.{statement}
 use Rattle.codec.proofs.headers.has_magic.Tie as tie

@@ -1,6 +1,6 @@
 -- `codec::seal::seal` meets its contract.
 use mathlib.Core.Path.{ap₂}
-use Rattle.basics.proofs.Lists.{read-all}
+use Rattle.basics.proofs.ListsLaws.{read-all}
 use mathlib.Core.List.{List, _++_}
 use Prim.Native.Nat.{ℕ}
 use Rattle.basics.specs.Little.{leBytes}

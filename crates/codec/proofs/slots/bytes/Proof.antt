@@ -1,9 +1,9 @@
 -- `codec::slots::bytes` meets its contract.
 use mathlib.Core.Path.{ap}
-use Rattle.basics.proofs.Lists.{read-all}
+use Rattle.basics.proofs.ListsLaws.{read-all}
 use mathlib.Core.List.{List, _∷_}
 use Prim.Native.Nat.{ℕ}
-use Rattle.codec.proofs.Owned.{ten}
+use Rattle.codec.proofs.SlotsOwned.{ten}
 use borrow.Author.Needs.{needs}
 use Rattle.codec.proofs.slots.bytes.Statement.{statement}
 use Rattle.codec.proofs.slots.bytes.Tie as tie

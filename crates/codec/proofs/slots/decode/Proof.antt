@@ -1,6 +1,6 @@
 -- `codec::slots::decode` meets its contract.
 use Rattle.codec.specs.Slots.{decoded}
-use Rattle.codec.proofs.Laws.{from-under}
+use Rattle.codec.proofs.SlotsLaws.{from-under}
 use borrow.Author.Needs.{needs}
 use Rattle.codec.proofs.slots.decode.Statement.{statement}
 use Rattle.codec.proofs.slots.decode.Tie as tie

@@ -1,6 +1,6 @@
 -- `codec::slots::encode` meets its contract.
 use Rattle.codec.specs.Slots.{slotOf}
-use Rattle.codec.proofs.Laws.{from-under}
+use Rattle.codec.proofs.SlotsLaws.{from-under}
 use borrow.Author.Needs.{needs}
 use Rattle.codec.proofs.slots.encode.Statement.{statement}
 use Rattle.codec.proofs.slots.encode.Tie as tie

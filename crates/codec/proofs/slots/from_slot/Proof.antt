@@ -1,6 +1,6 @@
 -- `codec::slots::from_slot` meets its contract.
 use mathlib.Core.Path.{ap}
-use Rattle.basics.proofs.Lists.{read-part}
+use Rattle.basics.proofs.ListsLaws.{read-part}
 use native.Mathlib.Omega.{arith}
 use mathlib.Core.List.{List}
 use Prim.Native.Nat.{ℕ}

@@ -5,7 +5,7 @@ use borrow.Author.Tests.{not-true, not-false}
 use Rattle.basics.specs.Answers.{isDone}
 use Rattle.flash.specs.Run.{Flash}
 use Rattle.sectors.specs.Shown.{flashWith}
-use Rattle.decisions.proofs.outcomes.Deciding.{on-refused, on-unformatted, on-failed, on-given, on-written}
+use Rattle.decisions.proofs.PerformingLaws.{on-refused, on-unformatted, on-failed, on-given, on-written}
 use borrow.Author.Needs.{needs}
 use Rattle.decisions.proofs.actions.perform.Statement.{statement}
 use Rattle.decisions.proofs.actions.perform.Tie as tie

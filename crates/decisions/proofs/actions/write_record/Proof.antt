@@ -8,14 +8,14 @@ use Rattle.codec.specs.declared.Raw.{Raw}
 use Rattle.records.specs.declared.Log.{Log}
 use Rattle.records.specs.Table.{placeOf, joined, newCount}
 use Rattle.records.specs.Logs.{places, recordsOf}
-use Rattle.records.proofs.Places.{places-take}
-use Rattle.records.proofs.Storing.{stored, new-most}
-use Rattle.records.proofs.fitting.Owned.{whole-log}
-use Rattle.records.proofs.fitting.Laws.{fits-clauses, fits-active, records-length, log-is}
-use Rattle.sectors.specs.Commits.{Wrote}
+use Rattle.records.proofs.LogsPlaces.{places-take}
+use Rattle.records.proofs.TableStoring.{stored, new-most}
+use Rattle.records.proofs.LogsOwned.{whole-log}
+use Rattle.records.proofs.FittingLaws.{fits-clauses, fits-active, records-length, log-is}
+use Rattle.sectors.specs.Commits.{Written}
 use Rattle.sectors.specs.Appends.{appendOf}
-use Rattle.sectors.specs.Shown.{flashWith, Writing}
-use Rattle.decisions.proofs.outcomes.Finishing.{finished}
+use Rattle.sectors.specs.Shown.{flashWith, ShowsWrote}
+use Rattle.decisions.proofs.ReadyFinish.{finished}
 use borrow.Author.Needs.{needs}
 use Rattle.decisions.proofs.actions.write_record.Statement.{statement}
 use Rattle.decisions.proofs.actions.write_record.Tie as tie
@@ -85,8 +85,8 @@ returns c = λ cut.
     let a = s .args in
     let count = n .new-count .ensures ∙ new-count s in
     let records : take (n .new-count .result) (set (a .log .table) (a .at) (a .rec)) ≡ after s = ap₂ take count (new-table s) ∙ places-take (after s) in
-    let wrote : List Raw → Wrote = λ (t : List Raw). appendOf (a .sectors) (a .sector) (a .seq) (a .head) (a .log .«next_seq») (a .rec) t (flashWith (a .image .now) (a .used) cut) in
-    let shown = subst (λ (t : List Raw). Writing (wrote t) (p .append .result) (p .append .last .0)) records (p .append .ensures cut) in
+    let wrote : List Raw → Written = λ (t : List Raw). appendOf (a .sectors) (a .sector) (a .seq) (a .head) (a .log .«next_seq») (a .rec) t (flashWith (a .image .now) (a .used) cut) in
+    let shown = subst (λ (t : List Raw). ShowsWrote (wrote t) (p .append .result) (p .append .last .0)) records (p .append .ensures cut) in
     record {
       answered =
           c .finish .ensures

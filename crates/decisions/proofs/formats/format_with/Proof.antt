@@ -4,11 +4,11 @@ use mathlib.Core.List.{[]}
 use lib.ListN.{length, take}
 use Rattle.records.specs.declared.Log.{Log}
 use Rattle.records.specs.Logs.{places}
-use Rattle.records.proofs.fitting.Owned.{whole-log}
-use Rattle.records.proofs.fitting.Laws.{fits-unformatted, records-length, log-is}
+use Rattle.records.proofs.LogsOwned.{whole-log}
+use Rattle.records.proofs.FittingLaws.{fits-unformatted, records-length, log-is}
 use Rattle.sectors.specs.Commits.{commitFirst}
 use Rattle.sectors.specs.Shown.{flashWith}
-use Rattle.decisions.proofs.outcomes.Finishing.{finished}
+use Rattle.decisions.proofs.ReadyFinish.{finished}
 use borrow.Author.Needs.{needs}
 use Rattle.decisions.proofs.formats.format_with.Statement.{statement}
 use Rattle.decisions.proofs.formats.format_with.Tie as tie

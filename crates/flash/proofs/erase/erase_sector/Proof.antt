@@ -9,8 +9,8 @@ use borrow.Author.Tests.{lt-ltb, le-ltb}
 use Rattle.basics.specs.Lists.{allAre, splice}
 use Rattle.flash.specs.Image.{sectorAt, withSector}
 use Rattle.flash.specs.Run.{blanked}
-use Rattle.flash.proofs.Landing.{blanked-length}
-use Rattle.flash.proofs.Lent.{lent-whole, lent-again}
+use Rattle.flash.proofs.RunLanding.{blanked-length}
+use Rattle.flash.proofs.ImageLent.{lent-whole, lent-again}
 use Rattle.flash.proofs.erase.erase_sector.Statement.{statement}
 use Rattle.flash.proofs.erase.erase_sector.Tie as tie
 

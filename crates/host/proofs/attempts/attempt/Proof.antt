@@ -50,9 +50,9 @@ use Rattle.decisions.specs.Outcomes.{Outcome, doneOf}
 use Rattle.decisions.proofs.outcomes.Done as D
 use Rattle.decisions.proofs.outcomes.Done.Laws as D′
 use Rattle.tries.specs.Tries.{advanceOf, spendOf}
-use Rattle.host.proofs.lent.Plain.{Single, struct-single, uint-single, typed}
-use Rattle.host.proofs.lent.InPlace.{PlanR, planVals}
-use Rattle.host.specs.LentCalls.{Leaves}
+use Rattle.host.proofs.LentPlain.{Single, struct-single, uint-single, typed}
+use Rattle.host.proofs.LentInPlace.{PlanR, planVals}
+use Rattle.host.specs.LentCalls.{ShowsDoneLent}
 use Rattle.host.proofs.advance_lamport as advance
 use Rattle.host.proofs.advance_lamport.Symbol as advance-def
 use Rattle.host.proofs.advance_lamport.Met as advance-thm
@@ -63,8 +63,8 @@ use Rattle.host.specs.declared.attempts.Attempted.{Attempted}
 use Rattle.host.specs.Attempts.{AttemptOf, spentAfter}
 use Rattle.host.proofs.attempts.Attempted as At
 use Rattle.host.proofs.attempts.Attempted.Laws as At′
-use Rattle.host.proofs.attempts.Image.{image-at, Awaited, lends-image, image-back}
-use Rattle.host.proofs.attempts.Local.{cell, plan-at, lends-local, local-back}
+use Rattle.host.proofs.AttemptsImage.{image-at, Awaited, lends-image, image-back}
+use Rattle.host.proofs.AttemptsLocal.{cell, plan-at, lends-local, local-back}
 use Rattle.host.proofs.attempts.log_after as log-after
 use Rattle.host.proofs.attempts.log_after.Symbol as log-after-def
 use Rattle.host.proofs.attempts.log_after.Met as log-after-thm
@@ -101,8 +101,8 @@ abbrev stayed : Stays (attempt.ended .signature .params) (attempt.ended .kept)
 stayed = (gave-slice (0 ∷ []) tt (plain (λ _. u8)), (stay-dropped (plain (λ _. LogR)) yes, (stay-dropped (plain (λ _. PlanR)) yes, (stay-dropped (plain (λ _. u8)) yes, (stay-dropped (plain (λ _. u8)) yes, (stay-dropped (plain (λ _. u64)) yes, tt))))))
 
 -- the second call goes on from what the first left
-attempted : (ys : List ℕ) (log : Log) (h : Plan) (credential current seen : ℕ) (r₁ : Done) (zs : List ℕ) (p : Plan) → Leaves (advanceOf ys log h seen) r₁ zs p → (next : Log) → next ≡ r₁ .log
-    → (r₂ : Done) (ws : List ℕ) (p₂ : Plan) → Leaves (spendOf zs next p credential current) r₂ ws p₂ → (r : Attempted) → r ≡ record { numbered = r₁; spent = r₂ } → AttemptOf ys log h credential current seen r ws
+attempted : (ys : List ℕ) (log : Log) (h : Plan) (credential current seen : ℕ) (r₁ : Done) (zs : List ℕ) (p : Plan) → ShowsDoneLent (advanceOf ys log h seen) r₁ zs p → (next : Log) → next ≡ r₁ .log
+    → (r₂ : Done) (ws : List ℕ) (p₂ : Plan) → ShowsDoneLent (spendOf zs next p credential current) r₂ ws p₂ → (r : Attempted) → r ≡ record { numbered = r₁; spent = r₂ } → AttemptOf ys log h credential current seen r ws
 attempted ys log h credential current seen r₁ zs p e₁ next e r₂ ws p₂ e₂ r is =
     let o : Outcome = advanceOf ys log h seen in
     let log-is = e ∙ ap (λ (d : Done). d .log) (e₁ .met .answered) in
@@ -188,8 +188,8 @@ module _ {M : Type 1} (𝓤 : URA M) (H : Heap 𝓤) (A : Atoms 𝓤) (W : Given
         move ! (2 ∷ 5 ∷ []) $ join ! $ move ! (4 ∷ 0 ∷ []) $ join ! $ join ! $ nothing ! $ move ! (1 ∷ 0 ∷ []) $ join ! $ use1 W (raw (Advance 𝓤 H A at-mem run .pre (to-advance ν δ μ l₇ ε))) (id⊢ 𝓤 _) $
         calls-at ! fm (Advance 𝓤 H A at-mem run) known-advance (to-advance ν δ μ l₇ ε) (and-then ! (load ! (from ! (stop !)) (look ! 11 refl)) (and-then ! (load ! (from ! (stop !)) (look ! 30 refl)) (and-then ! (load ! (from ! (stop !)) (look ! 9 refl)) (and-then ! (load ! (from ! (stop !)) (look ! 22 refl)) (no-more !))))) (λ v₁.
         use1 W (later (some (λ (r : Done). ((‵ (flft (ν ∷ []) fullShare) ⊛ ‵ (flft (μ ∷ []) fullShare) ⊛ ‵ ftrue) ⊛ ‵ (DoneR .own r (v₁ ∷ []))) ⊛ raw (ensured 𝓤 H A advance.ended (advance.clauses 𝓤 H A at-mem run) (ν ∷ [], (μ ∷ [], tt)) (image-at image δ ys, (log, (plan-at l₇ ε h, (seen, tt)))) tt r)))) (id⊢ 𝓤 _) $ await ! tt $ pick ! (λ r₁.
-        split ! $ move ! (1 ∷ []) $ use1 W (some (λ (t : Lasts advance.ended (ν ∷ [], (μ ∷ [], tt)) (image-at image δ ys, (log, (plan-at l₇ ε h, (seen, tt))))). ‵ (lasts advance.ended (ν ∷ [], (μ ∷ [], tt)) (image-at image δ ys, (log, (plan-at l₇ ε h, (seen, tt)))) t) ⊛ raw (fact 𝓤 (Leaves (advanceOf ys log h seen) r₁ (t .0) (t .1 .1 .0))))) (id⊢ 𝓤 _) $ pick ! (λ t.
-        split ! $ move ! (1 ∷ []) $ heard ! (Leaves (advanceOf ys log h seen) r₁ (t .0) (t .1 .1 .0)) (λ e₁. fsplit ! $ fsplit ! $ move ! (1 ∷ []) $ feqL ! (λ n₁. move ! (1 ∷ []) $ fsplit ! $ drop ! $ fsplit ! $
+        split ! $ move ! (1 ∷ []) $ use1 W (some (λ (t : Lasts advance.ended (ν ∷ [], (μ ∷ [], tt)) (image-at image δ ys, (log, (plan-at l₇ ε h, (seen, tt))))). ‵ (lasts advance.ended (ν ∷ [], (μ ∷ [], tt)) (image-at image δ ys, (log, (plan-at l₇ ε h, (seen, tt)))) t) ⊛ raw (fact 𝓤 (ShowsDoneLent (advanceOf ys log h seen) r₁ (t .0) (t .1 .1 .0))))) (id⊢ 𝓤 _) $ pick ! (λ t.
+        split ! $ move ! (1 ∷ []) $ heard ! (ShowsDoneLent (advanceOf ys log h seen) r₁ (t .0) (t .1 .1 .0)) (λ e₁. fsplit ! $ fsplit ! $ move ! (1 ∷ []) $ feqL ! (λ n₁. move ! (1 ∷ []) $ fsplit ! $ drop ! $ fsplit ! $
         -- both come back: the plan as the call left it, and the image
         move ! (3 ∷ []) $ split ! $ split ! $ lft-end ! tt $ move ! (1 ∷ []) $ split ! $ lft-end ! tt $ move ! (0 ∷ 7 ∷ 4 ∷ []) $
         use3 W (later (given (Is PlanR (t .1 .1 .0) (planVals (t .1 .1 .0))) (‵ (cell l₇ (t .1 .1 .0))))) (local-back 𝓤 H A W l₇ (μ ∷ []) ε (t .1 .1 .0)) $ await ! tt $ learn ! (λ is-left. move ! (2 ∷ 6 ∷ 5 ∷ []) $
@@ -213,8 +213,8 @@ module _ {M : Type 1} (𝓤 : URA M) (H : Heap 𝓤) (A : Atoms 𝓤) (W : Given
         (and-then ! (load ! (from ! (stop !)) (look ! 5 refl)) (and-then ! (load ! (from ! (stop !)) (look ! 17 refl)) (and-then ! (load ! (from ! (stop !)) (look ! 3 refl)) (and-then ! (load ! (from ! (stop !)) (look ! 26 refl)) (and-then ! (load ! (from ! (stop !)) (look ! 24 refl)) (no-more !)))))) (λ v₃.
         use1 W (later (some (λ (r : Done). ((‵ (flft κ q) ⊛ ‵ (flft (μ₂ ∷ []) fullShare) ⊛ ‵ ftrue) ⊛ ‵ (DoneR .own r (v₃ ∷ []))) ⊛ raw (ensured 𝓤 H A spend.ended (spend.clauses 𝓤 H A at-mem run) (κ, (μ₂ ∷ [], tt)) (image-at image (image .name) (t .0), (next, (plan-at l₇ ε₂ (t .1 .1 .0), (credential, (current, tt))))) tt r)))) (id⊢ 𝓤 _) $ await ! tt $ pick ! (λ r₃.
         split ! $ move ! (1 ∷ []) $ use1 W (some (λ (w : Lasts spend.ended (κ, (μ₂ ∷ [], tt)) (image-at image (image .name) (t .0), (next, (plan-at l₇ ε₂ (t .1 .1 .0), (credential, (current, tt)))))). ‵ (lasts spend.ended (κ, (μ₂ ∷ [], tt)) (image-at image (image .name) (t .0), (next, (plan-at l₇ ε₂ (t .1 .1 .0), (credential, (current, tt))))) w)
-        ⊛ raw (fact 𝓤 (Leaves (spendOf (t .0) next (t .1 .1 .0) credential current) r₃ (w .0) (w .1 .1 .0))))) (id⊢ 𝓤 _) $ pick ! (λ w.
-        split ! $ move ! (1 ∷ []) $ heard ! (Leaves (spendOf (t .0) next (t .1 .1 .0) credential current) r₃ (w .0) (w .1 .1 .0)) (λ e₃. fsplit ! $ fsplit ! $ move ! (1 ∷ []) $ feqL ! (λ n₂. move ! (1 ∷ []) $ fsplit ! $ drop ! $ fsplit ! $
+        ⊛ raw (fact 𝓤 (ShowsDoneLent (spendOf (t .0) next (t .1 .1 .0) credential current) r₃ (w .0) (w .1 .1 .0))))) (id⊢ 𝓤 _) $ pick ! (λ w.
+        split ! $ move ! (1 ∷ []) $ heard ! (ShowsDoneLent (spendOf (t .0) next (t .1 .1 .0) credential current) r₃ (w .0) (w .1 .1 .0)) (λ e₃. fsplit ! $ fsplit ! $ move ! (1 ∷ []) $ feqL ! (λ n₂. move ! (1 ∷ []) $ fsplit ! $ drop ! $ fsplit ! $
         -- the plan's local comes back, to be freed
         move ! (3 ∷ []) $ split ! $ split ! $ move ! (1 ∷ []) $ split ! $ lft-end ! tt $ move ! (0 ∷ 7 ∷ 4 ∷ []) $
         use3 W (later (given (Is PlanR (w .1 .1 .0) (planVals (w .1 .1 .0))) (‵ (cell l₇ (w .1 .1 .0))))) (local-back 𝓤 H A W l₇ (μ₂ ∷ []) ε₂ (w .1 .1 .0)) $ await ! tt $ learn ! (λ _.

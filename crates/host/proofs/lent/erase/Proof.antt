@@ -15,10 +15,10 @@ use Rattle.host.proofs.lent.erase.Key as key
 use Rattle.host.proofs.lent.erase as erase
 use Rattle.host.proofs.lent.erase.Statement as stated
 use Rattle.host.proofs.lent.erase.Code as code
-use Rattle.host.proofs.lent.InPlace.{Lending, Read}
-use Rattle.host.proofs.lent.Lends.{Called}
-use Rattle.host.proofs.lent.NoneMore.{meets}
-use Rattle.host.proofs.lent.Steps.{step, sector-call}
+use Rattle.host.proofs.LentInPlace.{Lending, Read}
+use Rattle.host.proofs.LentWalks.{Called}
+use Rattle.host.proofs.LentNoneMore.{meets}
+use Rattle.host.proofs.LentFlashLaws.{step, sector-call}
 
 abbrev Rs : List RattleType
 Rs = []

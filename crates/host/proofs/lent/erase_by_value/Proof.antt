@@ -9,10 +9,10 @@ use Rattle.basics.specs.Answers.{isDone}
 use Rattle.basics.specs.declared.Answer.the-variants.{EraseError}
 use Rattle.flash.specs.Image.{sectorsIn}
 use Rattle.flash.specs.Run.{erase}
-use Rattle.flash.proofs.Geometry.{sectors-fit}
+use Rattle.flash.proofs.ImageSectors.{sectors-fit}
 use Rattle.sectors.specs.declared.Used.{Used}
 use Rattle.host.specs.LentFlash.{placeAnswer}
-use Rattle.host.proofs.lent.Places.{admitted, refused-step, made-step}
+use Rattle.host.proofs.LentFlashPlaces.{admitted, refused-step, made-step}
 use Rattle.host.proofs.lent.erase_by_value.Statement.{statement}
 use Rattle.host.proofs.lent.erase_by_value.Tie as tie
 

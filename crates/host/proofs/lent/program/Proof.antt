@@ -18,11 +18,11 @@ use Rattle.host.proofs.lent.program.Key as key
 use Rattle.host.proofs.lent.program as program
 use Rattle.host.proofs.lent.program.Statement as stated
 use Rattle.host.proofs.lent.program.Code as code
-use Rattle.host.proofs.lent.InPlace.{Lending, Read}
-use Rattle.host.proofs.lent.Plain.{array-single, uint-single}
-use Rattle.host.proofs.lent.Lends.{Called}
-use Rattle.host.proofs.lent.TwoMore.{meets}
-use Rattle.host.proofs.lent.Steps.{step, sector-call}
+use Rattle.host.proofs.LentInPlace.{Lending, Read}
+use Rattle.host.proofs.LentPlain.{array-single, uint-single}
+use Rattle.host.proofs.LentWalks.{Called}
+use Rattle.host.proofs.LentTwoMore.{meets}
+use Rattle.host.proofs.LentFlashLaws.{step, sector-call}
 
 abbrev Rs : List RattleType
 Rs = usize ∷ Array u8 16 ∷ []

@@ -2,7 +2,7 @@
 use mathlib.Core.Path.{sym}
 use native.Mathlib.Omega.{arith}
 use borrow.Author.Needs.{needs}
-use Rattle.ids.proofs.Laws.{failed-full, failed-more}
+use Rattle.ids.proofs.IdsLaws.{failed-full, failed-more}
 use Rattle.ids.proofs.CounterState.after_failure.Statement.{statement}
 use Rattle.ids.proofs.CounterState.after_failure.Tie as tie
 

@@ -1,7 +1,7 @@
 -- The result is what is left of the allowance, or 0 where the total is below at-reset or more than the allowance is spent.
 use native.Mathlib.Omega.{arith}
 use borrow.Author.Needs.{needs}
-use Rattle.ids.proofs.Laws.{remaining-below, remaining-from}
+use Rattle.ids.proofs.IdsLaws.{remaining-below, remaining-from}
 use Rattle.ids.proofs.CounterState.remaining.Statement.{statement}
 use Rattle.ids.proofs.CounterState.remaining.Tie as tie
 

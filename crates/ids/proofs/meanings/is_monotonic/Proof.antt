@@ -4,7 +4,7 @@ use borrow.Author.Needs.{needs}
 use Rattle.ids.specs.declared.Meaning.{Meaning}
 use Rattle.ids.specs.declared.Meaning.the-variants.{Credential, Monotonic, Free, Anchor, Unknown}
 use Rattle.ids.specs.Ids.{isMonotonic}
-use Rattle.ids.proofs.Laws.{grows, monotonic-meant}
+use Rattle.ids.proofs.IdsLaws.{grows, monotonic-meant}
 use Rattle.ids.proofs.meanings.is_monotonic.Statement.{statement}
 use Rattle.ids.proofs.meanings.is_monotonic.Tie as tie
 

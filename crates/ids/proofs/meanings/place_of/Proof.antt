@@ -5,7 +5,7 @@ use native.Mathlib.Omega.{arith}
 use borrow.Author.Needs.{needs}
 use lib.ListN.{length, drop}
 use Rattle.ids.specs.Ids.{placeFrom, placeOf, credentials}
-use Rattle.ids.proofs.Laws.{place-end, place-hit, place-miss}
+use Rattle.ids.proofs.IdsLaws.{place-end, place-hit, place-miss}
 use Rattle.ids.proofs.meanings.place_of.Statement.{statement}
 use Rattle.ids.proofs.meanings.place_of.Tie as tie
 

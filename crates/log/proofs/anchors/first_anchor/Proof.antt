@@ -14,9 +14,9 @@ use Rattle.records.specs.Fitting.{logFits}
 use Rattle.sectors.specs.Shown.{flashWith}
 use Rattle.decisions.specs.Decisions.{whenActive, anchorDecision}
 use Rattle.decisions.specs.declared.outcomes.Done.{Done}
-use Rattle.decisions.specs.Outcomes.{Outcome, Meets}
+use Rattle.decisions.specs.Outcomes.{Outcome, ShowsDone}
 use Rattle.decisions.specs.Performing.{performed, formatted}
-use Rattle.log.proofs.Anchoring.{format-cheap, format-fits, format-empty, first-stopped, first-decided}
+use Rattle.log.proofs.CallsAnchor.{format-cheap, format-fits, format-empty, first-stopped, first-decided}
 use borrow.Author.Needs.{needs}
 use Rattle.log.proofs.anchors.first_anchor.Statement.{statement}
 use Rattle.log.proofs.anchors.first_anchor.Tie as tie
@@ -32,7 +32,7 @@ module _ (w : tie.After-format-with) where
   abbrev outcome : Bool → Outcome
   outcome cut = formatted [] (start-of .args .sectors) (start-of .args .log) (flash-of cut)
 
-  shown : (cut : Bool) → Meets (outcome cut) (w .format-with .result) (w .format-with .last .0)
+  shown : (cut : Bool) → ShowsDone (outcome cut) (w .format-with .result) (w .format-with .last .0)
   shown cut = w .format-with .ensures cut
 
   told : (cut b : Bool) → isDone (w .format-with .result .answer) ≡ b → isDone (outcome cut .answer) ≡ b
@@ -124,7 +124,7 @@ returns-2 c = λ cut.
     ≡ performed (whenActive (o .log .state) (anchorDecision none true (a .new))) (a .sectors) (o .log) (o .flash) =
     λ i. performed (whenActive (e i .log .state) (decision i)) (a .sectors) (e i .log) (record { image = left i; plan = e i .plan; programmed = e i .programmed; erased = e i .erased; cut = o .flash .cut }) in
     rw (first-decided (a .new) (a .sectors) o (told w cut true (formed l)) (empty w (formed l) cut))
-    (subst (λ (x : Outcome). Meets x (p .perform .result) (p .perform .last .0)) same (p .perform .ensures (o .flash .cut)))
+    (subst (λ (x : Outcome). ShowsDone x (p .perform .result) (p .perform .last .0)) same (p .perform .ensures (o .flash .cut)))
 
 pub first-anchor-spec : {M : Type 1} → statement M
 first-anchor-spec =

@@ -4,7 +4,7 @@ use mathlib.Core.Bool.{Bool, _&&_}
 use borrow.Author.Tests.{eq-eqb, ne-eqb, not-true, not-false}
 use Rattle.records.specs.declared.State.{State}
 use Rattle.log.specs.Calls.{isFirst}
-use Rattle.log.specs.Steps.{opensLog}
+use Rattle.log.specs.FirstAnchor.{opensLog}
 use borrow.Author.Needs.{needs}
 use Rattle.log.proofs.anchors.is_first.Statement.{statement}
 use Rattle.log.proofs.anchors.is_first.Tie as tie

@@ -8,19 +8,19 @@ use lib.ListN.{length}
 use Rattle.ids.specs.Ids.{anchorTag}
 use Rattle.codec.specs.declared.OptRaw.{OptRaw}
 use Rattle.flash.specs.Image.{sectorsIn}
-use Rattle.records.proofs.fitting.Owned.{whole-log}
+use Rattle.records.proofs.LogsOwned.{whole-log}
 use Rattle.sectors.specs.declared.Used.{Used}
 use Rattle.sectors.specs.Shown.{flashWith}
 use Rattle.decisions.specs.Decisions.{anchorDecision}
-use Rattle.decisions.proofs.Keyed.{anchor-keyed}
+use Rattle.decisions.proofs.DecisionsKeyed.{anchor-keyed}
 use Rattle.reads.specs.Entering.{entryOf}
-use Rattle.reads.proofs.Entering.{let-in-by, entry-in}
-use Rattle.decisions.specs.Outcomes.{Outcome, Meets}
+use Rattle.reads.proofs.EnteringLaws.{let-in-by, entry-in}
+use Rattle.decisions.specs.Outcomes.{Outcome, ShowsDone}
 use Rattle.decisions.specs.Performing.{formatted}
-use Rattle.decisions.proofs.outcomes.Calling.{in-room, call-ready, call-meets}
+use Rattle.decisions.proofs.OutcomesCalls.{in-room, call-ready, call-meets}
 use Rattle.log.specs.Calls.{anchoredFirst, putAnchorOf}
-use Rattle.log.specs.Steps.{opensLog}
-use Rattle.log.proofs.Anchoring.{opened, as-first, as-call}
+use Rattle.log.specs.FirstAnchor.{opensLog}
+use Rattle.log.proofs.CallsAnchor.{opened, as-first, as-call}
 use borrow.Author.Needs.{needs}
 use Rattle.log.proofs.anchors.put_anchor.Statement.{statement}
 use Rattle.log.proofs.anchors.put_anchor.Tie as tie
@@ -75,7 +75,7 @@ returns c =
     let same : first (e .before .sectors .result) (u .unused .result) ≡ putAnchorOf (a .image .now) (a .log) (a .plan) (a .new) =
     (λ i. first (e .before .sectors .ensures i) (u .unused .ensures i))
     ∙ sym (as-first (a .image .now) (a .log) (a .plan) (a .new) (e .enter .result) (is-entry e) (opens f true (p .before .before .if1 .taken))) in
-    subst (λ (o : Outcome). Meets o (p .first-anchor .result) (p .first-anchor .last .0)) same (p .first-anchor .ensures false)
+    subst (λ (o : Outcome). ShowsDone o (p .first-anchor .result) (p .first-anchor .last .0)) same (p .first-anchor .ensures false)
 
 anchor-decision-requires : tie.Need-anchor-decision-requires
 anchor-decision-requires c κs = search needs

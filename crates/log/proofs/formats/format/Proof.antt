@@ -14,19 +14,19 @@ use Rattle.flash.specs.Image.{sectorsIn}
 use Rattle.flash.specs.Run.{Flash}
 use Rattle.records.specs.declared.State.{State}
 use Rattle.records.specs.declared.Log.{Log}
-use Rattle.records.proofs.Places.{places-take}
+use Rattle.records.proofs.LogsPlaces.{places-take}
 use Rattle.decisions.specs.declared.seeds.Seeded.{Seeded}
 use Rattle.decisions.specs.Seeds.{seedsKnown, seedTable}
 use Rattle.sectors.specs.declared.Used.{Used}
 use Rattle.sectors.specs.Shown.{flashWith}
 use Rattle.reads.specs.Entering.{entryOf}
-use Rattle.reads.proofs.Entering.{let-in-by, entry-in}
-use Rattle.decisions.specs.Outcomes.{Outcome, Meets, flashOf}
+use Rattle.reads.proofs.EnteringLaws.{let-in-by, entry-in}
+use Rattle.decisions.specs.Outcomes.{Outcome, ShowsDone, flashOf}
 use Rattle.decisions.specs.Performing.{formatted}
-use Rattle.decisions.specs.PerformingSteps.{answeredOf}
-use Rattle.decisions.proofs.outcomes.Calling.{entered-refused, entered-in, in-room}
+use Rattle.decisions.specs.Ready.{answeredOf}
+use Rattle.decisions.proofs.OutcomesCalls.{entered-refused, entered-in, in-room}
 use Rattle.log.specs.Calls.{formatOn, formatOf}
-use Rattle.log.proofs.Formatting.{known-few, table-most, filled}
+use Rattle.log.proofs.CallsFormat.{known-few, table-most, filled}
 use borrow.Author.Needs.{needs}
 use Rattle.log.proofs.formats.format.Statement.{statement}
 use Rattle.log.proofs.formats.format.Tie as tie
@@ -145,7 +145,7 @@ returns-2 c =
     (λ i. made (e .before .before .sectors .ensures i) (u .unused .ensures i) (t .seed-table .ensures i))
     ∙ ap (λ (x : List Raw). formatted x (sectorsIn (length (a .image .now))) (a .log) (flashOf (a .image .now) (a .plan))) (places-take (seedTable (a .seeds) (a .count)))
     ∙ sym (by-state l _ (m .enum-told .given .1)) in
-    subst (λ (o : Outcome). Meets o (p .format-with .result) (p .format-with .last .0)) same (p .format-with .ensures false)
+    subst (λ (o : Outcome). ShowsDone o (p .format-with .result) (p .format-with .last .0)) same (p .format-with .ensures false)
 
 returns-3 : tie.Need-returns-3
 returns-3 c =

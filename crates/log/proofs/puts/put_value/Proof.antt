@@ -6,11 +6,11 @@ use lib.ListN.{length}
 use Rattle.ids.specs.Ids.{valueTag, isValue}
 use Rattle.codec.specs.declared.OptRaw.{OptRaw}
 use Rattle.flash.specs.Image.{sectorsIn}
-use Rattle.records.proofs.fitting.Owned.{whole-log}
+use Rattle.records.proofs.LogsOwned.{whole-log}
 use Rattle.decisions.specs.Decisions.{valueDecision}
-use Rattle.decisions.proofs.Keyed.{value-keyed}
+use Rattle.decisions.proofs.DecisionsKeyed.{value-keyed}
 use Rattle.reads.specs.Entering.{entryOf}
-use Rattle.decisions.proofs.outcomes.Calling.{call-ready, call-meets}
+use Rattle.decisions.proofs.OutcomesCalls.{call-ready, call-meets}
 use Rattle.log.specs.Calls.{putValueOf}
 use borrow.Author.Needs.{needs}
 use Rattle.log.proofs.puts.put_value.Statement.{statement}

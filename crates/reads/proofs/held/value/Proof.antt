@@ -11,7 +11,7 @@ use Rattle.reads.specs.declared.Entry.{Entry}
 use Rattle.reads.specs.declared.Number.the-variants.{Refused, Nothing, Held}
 use Rattle.reads.specs.Entering.{entryOf}
 use Rattle.reads.specs.Reads.{numberBy, valueOf}
-use Rattle.reads.proofs.Entering.{read-refused, read-by}
+use Rattle.reads.proofs.EnteringLaws.{read-refused, read-by}
 use borrow.Author.Needs.{needs}
 use Rattle.reads.proofs.held.value.Statement.{statement}
 use Rattle.reads.proofs.held.value.Tie as tie

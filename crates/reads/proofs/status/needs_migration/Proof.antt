@@ -6,8 +6,8 @@ use Rattle.basics.specs.Answers.{isDone}
 use Rattle.ids.specs.Ids.{anchorTag}
 use Rattle.records.specs.declared.State.{State}
 use Rattle.reads.specs.declared.Entry.{Entry}
-use Rattle.reads.specs.Reads.{refusedTold, migrationBy, needsMigrationOf}
-use Rattle.reads.proofs.Entering.{read-refused, read-by}
+use Rattle.reads.specs.Reads.{toldRefused, migrationBy, needsMigrationOf}
+use Rattle.reads.proofs.EnteringLaws.{read-refused, read-by}
 use borrow.Author.Needs.{needs}
 use Rattle.reads.proofs.status.needs_migration.Statement.{statement}
 use Rattle.reads.proofs.status.needs_migration.Tie as tie
@@ -19,13 +19,13 @@ module _ (d : tie.After-is-done) where
   abbrev entry : Entry
   entry = d .before .enter .result
 
-  refused : isDone (entry .answer) ≡ false → refusedTold (entry .answer) ≡ needsMigrationOf (start-of .args .log)
+  refused : isDone (entry .answer) ≡ false → toldRefused (entry .answer) ≡ needsMigrationOf (start-of .args .log)
   unfolding needsMigrationOf
-  refused = read-refused migrationBy refusedTold (start-of .args .log) true anchorTag 0 entry (d .before .enter .ensures)
+  refused = read-refused migrationBy toldRefused (start-of .args .log) true anchorTag 0 entry (d .before .enter .ensures)
 
   by : isDone (entry .answer) ≡ true → migrationBy (start-of .args .log .state) (entry .held) ≡ needsMigrationOf (start-of .args .log)
   unfolding needsMigrationOf
-  by = read-by migrationBy refusedTold (start-of .args .log) true anchorTag 0 entry (d .before .enter .ensures)
+  by = read-by migrationBy toldRefused (start-of .args .log) true anchorTag 0 entry (d .before .enter .ensures)
 
 let-in : (l : tie.Else1) (s : State) → start-of (l .before) .args .log .state ≡ s → migrationBy s (entry (l .before) .held) ≡ needsMigrationOf (start-of (l .before) .args .log)
 let-in l s e = let d = l .before in ap (λ (x : State). migrationBy x (entry d .held)) (sym e) ∙ by d (sym (d .is-done .ensures) ∙ not-false (d .is-done .result) (l .if1 .left))

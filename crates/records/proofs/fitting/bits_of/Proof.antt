@@ -4,9 +4,9 @@ use mathlib.Core.List.{List, [], _∷_}
 use Prim.Native.Nat.{ℕ}
 use lib.ListN.{getD}
 use Rattle.basics.specs.Lists.{allAre}
-use Rattle.basics.proofs.Lists.{read-all}
-use Rattle.codec.proofs.Owned.{ten}
-use Rattle.records.proofs.fitting.Zeros.{bits-none}
+use Rattle.basics.proofs.ListsLaws.{read-all}
+use Rattle.codec.proofs.SlotsOwned.{ten}
+use Rattle.records.proofs.FittingZeros.{bits-none}
 use borrow.Author.Needs.{needs}
 use Rattle.records.proofs.fitting.bits_of.Statement.{statement}
 use Rattle.records.proofs.fitting.bits_of.Tie as tie

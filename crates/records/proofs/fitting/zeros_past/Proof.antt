@@ -7,7 +7,7 @@ use lib.Dec.{eqb}
 use lib.ListN.{length, drop}
 use Rattle.records.specs.Table.{limit}
 use Rattle.records.specs.Fitting.{allZeros}
-use Rattle.records.proofs.fitting.Zeros.{zeros-end, zeros-turn}
+use Rattle.records.proofs.FittingZeros.{zeros-end, zeros-turn}
 use Rattle.records.proofs.fitting.zeros_past.Statement.{statement}
 use Rattle.records.proofs.fitting.zeros_past.Tie as tie
 

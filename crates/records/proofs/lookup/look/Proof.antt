@@ -1,7 +1,7 @@
 -- `records::lookup::look` meets its contract.
 use mathlib.Core.Path.{sym, _∙_}
 use borrow.Author.Tests.{not-true, not-false}
-use Rattle.records.proofs.fitting.Looking.{no-seq, too-many, bad-state, bad-places, by-keys}
+use Rattle.records.proofs.FittingLooking.{no-seq, too-many, bad-state, bad-places, by-keys}
 use borrow.Author.Needs.{needs}
 use Rattle.records.proofs.lookup.look.Statement.{statement}
 use Rattle.records.proofs.lookup.look.Tie as tie

@@ -10,8 +10,8 @@ use lib.Seq.{getD-take, length-take-le}
 use borrow.Author.Tests.{eq-eqb, ne-eqb}
 use Rattle.codec.specs.declared.Raw.{Raw}
 use Rattle.records.specs.Table.{holds}
-use Rattle.records.proofs.Joining.{nowhere}
-use Rattle.records.proofs.fitting.Surveying.{Surveying, start, is-met, not-met, finish, blank, twice, hit, miss}
+use Rattle.records.proofs.TableJoining.{nowhere}
+use Rattle.records.proofs.SurveysLaws.{Surveying, start, is-met, not-met, finish, blank, twice, hit, miss}
 use Rattle.records.proofs.survey.survey.Statement.{statement}
 use Rattle.records.proofs.survey.survey.Tie as tie
 

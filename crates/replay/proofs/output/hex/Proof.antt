@@ -1,7 +1,7 @@
 -- `replay::output::hex` meets its contract.
 use native.Mathlib.Omega.{arith}
 use borrow.Author.Needs.{needs}
-use Rattle.text.proofs.Hex.{hex-two}
+use Rattle.text.proofs.TextHex.{hex-two}
 use Rattle.replay.proofs.output.hex.Statement.{statement}
 use Rattle.replay.proofs.output.hex.Tie as tie
 

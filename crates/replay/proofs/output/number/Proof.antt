@@ -4,7 +4,7 @@ use native.Mathlib.Omega.{arith}
 use lib.ListN.{length}
 use borrow.Author.Needs.{needs}
 use Rattle.text.specs.Text.{decimal}
-use Rattle.text.proofs.Decimal.{decimal-short}
+use Rattle.text.proofs.TextDecimal.{decimal-short}
 use Rattle.replay.proofs.output.number.Statement.{statement}
 use Rattle.replay.proofs.output.number.Tie as tie
 

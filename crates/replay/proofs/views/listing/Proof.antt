@@ -1,7 +1,7 @@
 -- `replay::views::listing` meets its contract: what `list` put lies in the buffer.
 use native.Mathlib.Omega.{arith}
 use borrow.Author.Needs.{needs}
-use Rattle.text.proofs.Putting.{put-within}
+use Rattle.text.proofs.TextPutting.{put-within}
 use Rattle.replay.proofs.views.listing.Statement.{statement}
 use Rattle.replay.proofs.views.listing.Tie as tie
 

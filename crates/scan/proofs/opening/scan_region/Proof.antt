@@ -3,10 +3,10 @@ use mathlib.Core.Path.{sym, ap, _∙_, subst}
 use Prim.Native.Nat.{ℕ}
 use native.Mathlib.Omega.{arith}
 use lib.ListN.{length}
-use Rattle.flash.proofs.Geometry.{sectors-fit}
+use Rattle.flash.proofs.ImageSectors.{sectors-fit}
 use Rattle.scan.specs.Choosing.{headerAt, chosenOf, Wins}
 use Rattle.scan.specs.Opening.{regionChosen, scanOf}
-use Rattle.scan.proofs.Winning.{Right, chosen-right}
+use Rattle.scan.proofs.ChoosingWinner.{Right, chosen-right}
 use borrow.Author.Needs.{needs}
 use Rattle.scan.proofs.opening.scan_region.Statement.{statement}
 use Rattle.scan.proofs.opening.scan_region.Tie as tie

@@ -1,7 +1,7 @@
 -- `scan::sector::scan_sector` meets its contract.
 use Rattle.records.specs.declared.State.the-variants.{Active}
-use Rattle.records.proofs.Joining.{nowhere}
-use Rattle.records.proofs.Places.{places-get}
+use Rattle.records.proofs.TableJoining.{nowhere}
+use Rattle.records.proofs.LogsPlaces.{places-get}
 use Rattle.scan.specs.Reading.{these}
 use Rattle.codec.specs.declared.Raw.{Raw}
 use Rattle.codec.specs.declared.OptRaw.{OptRaw}
@@ -16,9 +16,9 @@ use lib.ListN.{getD, take}
 use Rattle.basics.specs.Lists.{allAre}
 use borrow.Author.Tests.{not-true, not-false}
 use Rattle.codec.specs.Slots.{some, seqFed, crcFrom, decodedWith, decoded}
-use Rattle.codec.proofs.Laws.{decoded-from}
+use Rattle.codec.proofs.SlotsLaws.{decoded-from}
 use Rattle.flash.specs.Image.{slotAt}
-use Rattle.scan.proofs.Reading.{Scanning, pass, skip, replace, keep, add, full, place-found, read-end, head-end}
+use Rattle.scan.proofs.ReadingLaws.{Scanning, pass, skip, replace, keep, add, full, place-found, read-end, head-end}
 use Rattle.scan.proofs.sector.scan_sector.Statement.{statement}
 use Rattle.scan.proofs.sector.scan_sector.Tie as tie
 

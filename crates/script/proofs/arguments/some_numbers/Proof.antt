@@ -4,8 +4,8 @@ use Prim.Native.Nat.{_-_}
 use native.Mathlib.Omega.{arith}
 use lib.ListN.{length, getD, length-set}
 use borrow.Author.Needs.{needs}
-use Rattle.script.proofs.Behind.{number-fits}
-use Rattle.script.proofs.arguments.Bounds.{Below, below-zeros, below-set}
+use Rattle.script.proofs.WordsBehind.{number-fits}
+use Rattle.script.proofs.LimitsLaws.{Below, below-zeros, below-set}
 use Rattle.script.proofs.arguments.some_numbers.Statement.{statement}
 use Rattle.script.proofs.arguments.some_numbers.Tie as tie
 

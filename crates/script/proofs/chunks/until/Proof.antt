@@ -2,7 +2,7 @@
 use native.Mathlib.Omega.{arith}
 use lib.ListN.{drop, length-drop}
 use borrow.Author.Needs.{needs}
-use Rattle.script.proofs.Ends.{up-to-short}
+use Rattle.script.proofs.WordsEnds.{up-to-short}
 use Rattle.script.proofs.chunks.until.Statement.{statement}
 use Rattle.script.proofs.chunks.until.Tie as tie
 

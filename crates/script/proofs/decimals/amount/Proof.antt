@@ -4,7 +4,7 @@ use Prim.Native.Nat.{_-_, _≤_}
 use native.Mathlib.Omega.{arith}
 use lib.ListN.{length, getD, drop}
 use Rattle.script.specs.Decimals.{amountFrom, amountOf}
-use Rattle.script.proofs.Amounts.{a-digit, below-digits, above-digits, no-amount, some-amount, amount-end, amount-not, amount-further, amount-above}
+use Rattle.script.proofs.DecimalsAmounts.{a-digit, below-digits, above-digits, no-amount, some-amount, amount-end, amount-not, amount-further, amount-above}
 use Rattle.script.proofs.decimals.amount.Statement.{statement}
 use Rattle.script.proofs.decimals.amount.Tie as tie
 

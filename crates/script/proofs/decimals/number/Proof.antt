@@ -5,8 +5,8 @@ use native.Mathlib.Omega.{arith}
 use borrow.Author.Needs.{needs}
 use borrow.Author.Tests.{eq-eqb, ne-eqb}
 use Rattle.script.specs.Decimals.{amountOf, takenAt, numberAt}
-use Rattle.script.proofs.Ends.{end-within, word-part, no-space}
-use Rattle.script.proofs.Behind.{number-not, number-here}
+use Rattle.script.proofs.WordsEnds.{end-within, word-part, no-space}
+use Rattle.script.proofs.WordsBehind.{number-not, number-here}
 use Rattle.script.proofs.decimals.number.Statement.{statement}
 use Rattle.script.proofs.decimals.number.Tie as tie
 

@@ -6,7 +6,7 @@ use native.Mathlib.Omega.{arith}
 use borrow.Author.Needs.{needs}
 use Rattle.script.specs.declared.Byte.the-variants.{Is}
 use Rattle.script.specs.Hex.{byteAt}
-use Rattle.script.proofs.Pairs.{byte-outside, no-first, no-second, a-pair}
+use Rattle.script.proofs.HexPairs.{byte-outside, no-first, no-second, a-pair}
 use Rattle.script.proofs.hex.hex_byte.Statement.{statement}
 use Rattle.script.proofs.hex.hex_byte.Tie as tie
 

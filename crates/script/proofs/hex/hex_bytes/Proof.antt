@@ -6,9 +6,9 @@ use native.Mathlib.Omega.{arith}
 use borrow.Author.Needs.{needs}
 use lib.ListN.{length}
 use Rattle.text.specs.Text.{Puts}
-use Rattle.text.proofs.Putting.{Begun, begun, next, ended, put-none, put-one, same-room}
+use Rattle.text.proofs.TextPutting.{Begun, begun, next, ended, put-none, put-one, same-room}
 use Rattle.script.specs.Hex.{bytesIn}
-use Rattle.script.proofs.Pairs.{byte-within, fill-none, fill-more, fill-full, fill-room}
+use Rattle.script.proofs.HexPairs.{byte-within, fill-none, fill-more, fill-full, fill-room}
 use Rattle.script.proofs.hex.hex_bytes.Statement.{statement}
 use Rattle.script.proofs.hex.hex_bytes.Tie as tie
 

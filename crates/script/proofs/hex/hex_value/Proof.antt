@@ -2,7 +2,7 @@
 use mathlib.Core.Path.{sym}
 use native.Mathlib.Omega.{arith}
 use borrow.Author.Needs.{needs}
-use Rattle.script.proofs.Pairs.{value-digit, value-letter, value-below, value-between, value-above}
+use Rattle.script.proofs.HexPairs.{value-digit, value-letter, value-below, value-between, value-above}
 use Rattle.script.proofs.hex.hex_value.Statement.{statement}
 use Rattle.script.proofs.hex.hex_value.Tie as tie
 

@@ -4,7 +4,7 @@ use Prim.Native.Nat.{_-_}
 use native.Mathlib.Omega.{arith}
 use lib.ListN.{length}
 use Rattle.script.specs.Words.{endOf}
-use Rattle.script.proofs.Ends.{end-none, end-here, end-further}
+use Rattle.script.proofs.WordsEnds.{end-none, end-here, end-further}
 use Rattle.script.proofs.words.end.Statement.{statement}
 use Rattle.script.proofs.words.end.Tie as tie
 

@@ -4,7 +4,7 @@ use Prim.Native.Nat.{_-_}
 use native.Mathlib.Omega.{arith}
 use lib.ListN.{length, drop}
 use Rattle.basics.specs.Lists.{same}
-use Rattle.script.proofs.Comparing.{differ-length, same-end, same-further, same-not}
+use Rattle.script.proofs.WordsComparing.{differ-length, same-end, same-further, same-not}
 use Rattle.script.proofs.words.is_same.Statement.{statement}
 use Rattle.script.proofs.words.is_same.Tie as tie
 

@@ -8,8 +8,8 @@ use borrow.Author.Tests.{eq-eqb, ne-eqb}
 use Rattle.basics.specs.Lists.{same}
 use Rattle.script.specs.declared.Past.the-variants.{At}
 use Rattle.script.specs.Words.{wordAt}
-use Rattle.script.proofs.Ends.{end-within, word-part, no-space}
-use Rattle.script.proofs.Behind.{skip-not, skip-here, skip-other}
+use Rattle.script.proofs.WordsEnds.{end-within, word-part, no-space}
+use Rattle.script.proofs.WordsBehind.{skip-not, skip-here, skip-other}
 use Rattle.script.proofs.words.skip.Statement.{statement}
 use Rattle.script.proofs.words.skip.Tie as tie
 

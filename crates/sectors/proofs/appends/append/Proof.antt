@@ -9,11 +9,11 @@ use Rattle.basics.specs.declared.Answer.the-variants.{WriteError}
 use Rattle.codec.specs.declared.Raw.{Raw}
 use Rattle.codec.specs.Slots.{slotOf}
 use Rattle.flash.specs.Run.{Flash}
-use Rattle.sectors.specs.Appends.{Tried, triesFrom}
+use Rattle.sectors.specs.Appends.{SlotTries, triesFrom}
 use Rattle.sectors.specs.Shown.{flashWith}
-use Rattle.sectors.proofs.Showing.{tries-are}
-use Rattle.sectors.proofs.Stepping.{after-within, append-full, append-tried}
-use Rattle.sectors.proofs.Costs.{tries-within}
+use Rattle.sectors.proofs.ShownLaws.{tries-are}
+use Rattle.sectors.proofs.SectorsTurns.{after-within, append-full, append-tried}
+use Rattle.sectors.proofs.SectorsCosts.{tries-within}
 use borrow.Author.Needs.{needs}
 use Rattle.sectors.proofs.appends.append.Statement.{statement}
 use Rattle.sectors.proofs.appends.append.Tie as tie
@@ -27,11 +27,11 @@ flash-of t cut = flashWith (start-of t .args .image .now) (start-of t .args .use
 abbrev records-of : tie.After-try-slots → List Raw
 records-of t = take (start-of t .args .count) (start-of t .args .table)
 
-abbrev trying : tie.After-try-slots → Bool → Tried
+abbrev trying : tie.After-try-slots → Bool → SlotTries
 trying t cut = let a = start-of t .args in triesFrom 3 (a .sector) (a .head) (slotOf (a .seq) (a .«record»)) WriteError (flash-of t cut)
 
 -- what the tries showed
-abbrev shown-of : tie.After-try-slots → Bool → Tried
+abbrev shown-of : tie.After-try-slots → Bool → SlotTries
 shown-of t cut = record { full = t .try-slots .result .full; answer = t .try-slots .result .answer; head = t .try-slots .result .head; flash = flashWith (t .try-slots .last .0) (t .try-slots .result .used) (trying t cut .flash .cut) }
 
 tried-is : (t : tie.After-try-slots) (cut : Bool) → trying t cut ≡ shown-of t cut
@@ -41,8 +41,8 @@ cheap : (t : tie.After-try-slots) → (t .try-slots .result .used .programmed �
 cheap t =
     let a = start-of t .args in
     let most = tries-within 3 (a .sector) (a .head) (slotOf (a .seq) (a .«record»)) WriteError (flash-of t true) in (
-      omega (arith, most .programmed, start-of t .pre .5, ap (λ (o : Tried). o .flash .programmed) (tried-is t true)),
-      omega (arith, most .erased, start-of t .pre .6, ap (λ (o : Tried). o .flash .erased) (tried-is t true)),
+      omega (arith, most .programmed, start-of t .pre .5, ap (λ (o : SlotTries). o .flash .programmed) (tried-is t true)),
+      omega (arith, most .erased, start-of t .pre .6, ap (λ (o : SlotTries). o .flash .erased) (tried-is t true)),
     )
 
 encode-requires : tie.Need-encode-requires

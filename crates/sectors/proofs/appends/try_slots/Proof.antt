@@ -9,9 +9,9 @@ use Rattle.basics.specs.declared.Answer.the-variants.{Done, WriteError}
 use Rattle.flash.specs.Run.{Flash, Stepped, program}
 use Rattle.sectors.specs.Appends.{triesFrom}
 use Rattle.sectors.specs.Shown.{flashWith}
-use Rattle.sectors.proofs.Showing.{step-is}
-use Rattle.sectors.proofs.Stepping.{tries-end, tries-full, tries-done, tries-on}
-use Rattle.sectors.proofs.Costs.{program-within}
+use Rattle.sectors.proofs.ShownLaws.{step-is}
+use Rattle.sectors.proofs.SectorsTurns.{tries-end, tries-full, tries-done, tries-on}
+use Rattle.sectors.proofs.SectorsCosts.{program-within}
 use Rattle.sectors.proofs.appends.try_slots.Statement.{statement}
 use Rattle.sectors.proofs.appends.try_slots.Tie as tie
 

@@ -12,11 +12,11 @@ use Rattle.records.specs.declared.State.the-variants.{Active}
 use Rattle.codec.specs.declared.Raw.{Raw}
 use Rattle.flash.specs.Run.{Flash, Stepped}
 use Rattle.sectors.specs.Sectors.{writeSector}
-use Rattle.sectors.specs.Commits.{after, commitFrom}
+use Rattle.sectors.specs.Commits.{sectorAfter, commitFrom}
 use Rattle.sectors.specs.Shown.{flashWith}
-use Rattle.sectors.proofs.Showing.{step-is}
-use Rattle.sectors.proofs.Stepping.{after-within, commit-skip, commit-used-up, commit-done, commit-on, commit-end}
-use Rattle.sectors.proofs.Costs.{sector-within}
+use Rattle.sectors.proofs.ShownLaws.{step-is}
+use Rattle.sectors.proofs.SectorsTurns.{after-within, commit-skip, commit-used-up, commit-done, commit-on, commit-end}
+use Rattle.sectors.proofs.SectorsCosts.{sector-within}
 use Rattle.sectors.proofs.commits.commit.Statement.{statement}
 use Rattle.sectors.proofs.commits.commit.Tie as tie
 

@@ -9,16 +9,16 @@ use lib.Seq.{length-take-le, getD-take}
 use borrow.Author.Tests.{not-true, not-false}
 use Rattle.codec.specs.declared.Raw.{Raw}
 use Rattle.codec.specs.Slots.{seqFed, crcFrom, sealed, bytesOf, slotOf}
-use Rattle.codec.proofs.Laws.{sealed-from}
+use Rattle.codec.proofs.SlotsLaws.{sealed-from}
 use Rattle.flash.specs.Run.{Stepped, program}
-use Rattle.records.proofs.Joining.{nowhere}
+use Rattle.records.proofs.TableJoining.{nowhere}
 use Rattle.basics.specs.Answers.{isDone}
 use Rattle.sectors.specs.declared.Step.{Step}
 use Rattle.sectors.specs.Sectors.{writeRecords}
-use Rattle.sectors.specs.Shown.{flashWith, Stepping}
-use Rattle.sectors.proofs.Showing.{step-is}
-use Rattle.sectors.proofs.Stepping.{one, records-end, records-on, records-stop}
-use Rattle.sectors.proofs.Costs.{program-within}
+use Rattle.sectors.specs.Shown.{flashWith, ShowsStep}
+use Rattle.sectors.proofs.ShownLaws.{step-is}
+use Rattle.sectors.proofs.SectorsTurns.{one, records-end, records-on, records-stop}
+use Rattle.sectors.proofs.SectorsCosts.{program-within}
 use Rattle.sectors.proofs.rewrites.write_records.Statement.{statement}
 use Rattle.sectors.proofs.rewrites.write_records.Tie as tie
 
@@ -46,7 +46,7 @@ records-long l = length-take-le (start-of l .args .count) (start-of l .args .t4)
 abbrev turn : tie.At-loop Inv-loop μ-loop → Bool → Stepped
 turn l now = one (start-of l .args .sector) (start-of l .args .seq) (records-of l) (l .loop .i) (flashWith (l .loop .image) (l .loop .u) now)
 
-stepped : (p : tie.After-program Inv-loop μ-loop) (now : Bool) → Stepping (turn (at-loop p) now) (p .program .result) (p .program .last .0)
+stepped : (p : tie.After-program Inv-loop μ-loop) (now : Bool) → ShowsStep (turn (at-loop p) now) (p .program .result) (p .program .last .0)
 stepped p now =
     let l = at-loop p in
     let a = start-of l .args in

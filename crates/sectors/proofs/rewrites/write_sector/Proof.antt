@@ -9,10 +9,10 @@ use borrow.Author.Tests.{not-true, not-false}
 use Rattle.basics.specs.Answers.{isDone}
 use Rattle.codec.specs.declared.Raw.{Raw}
 use Rattle.flash.specs.Run.{Flash, Stepped, erase}
-use Rattle.sectors.specs.Shown.{flashWith, Stepping}
-use Rattle.sectors.proofs.Showing.{step-is}
-use Rattle.sectors.proofs.Stepping.{wiped, filled, sector-unerased, sector-unfilled, sector-headed}
-use Rattle.sectors.proofs.Costs.{erase-within, records-within}
+use Rattle.sectors.specs.Shown.{flashWith, ShowsStep}
+use Rattle.sectors.proofs.ShownLaws.{step-is}
+use Rattle.sectors.proofs.SectorsTurns.{wiped, filled, sector-unerased, sector-unfilled, sector-headed}
+use Rattle.sectors.proofs.SectorsCosts.{erase-within, records-within}
 use borrow.Author.Needs.{needs}
 use Rattle.sectors.proofs.rewrites.write_sector.Statement.{statement}
 use Rattle.sectors.proofs.rewrites.write_sector.Tie as tie
@@ -36,7 +36,7 @@ erased-at w = w .before .before .before .before .before .before
 abbrev filling : tie.After-write-records → Bool → Stepped
 filling w cut = let e = erased-at w in filled (start-of e .args .sector) (start-of e .args .seq) (records-of e) (first-flash e cut)
 
-filled-shown : (w : tie.After-write-records) (cut : Bool) → Stepping (filling w cut) (w .write-records .result) (w .write-records .last .0)
+filled-shown : (w : tie.After-write-records) (cut : Bool) → ShowsStep (filling w cut) (w .write-records .result) (w .write-records .last .0)
 filled-shown w cut =
     let e = erased-at w in
     let o = erase (start-of e .args .sector) (first-flash e cut) in

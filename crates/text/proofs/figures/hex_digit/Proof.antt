@@ -2,7 +2,7 @@
 use mathlib.Core.Path.{sym}
 use native.Mathlib.Omega.{arith}
 use borrow.Author.Needs.{needs}
-use Rattle.text.proofs.Hex.{digit-low, digit-high}
+use Rattle.text.proofs.TextHex.{digit-low, digit-high}
 use Rattle.text.proofs.figures.hex_digit.Statement.{statement}
 use Rattle.text.proofs.figures.hex_digit.Tie as tie
 

@@ -5,7 +5,7 @@ use Prim.Native.Nat.{ℕ, _+_, _-_}
 use native.Mathlib.Omega.{arith}
 use lib.ListN.{take, drop, set, length-set}
 use Rattle.text.specs.Text.{decimal, Puts}
-use Rattle.text.proofs.Decimal.{Spelling, spelling, spell-more, spell-end}
+use Rattle.text.proofs.TextDecimal.{Spelling, spelling, spell-more, spell-end}
 use Rattle.text.proofs.figures.put_decimal.Statement.{statement}
 use Rattle.text.proofs.figures.put_decimal.Tie as tie
 

@@ -5,7 +5,7 @@ use Prim.Native.Nat.{ℕ, _/_, _%_}
 use native.Mathlib.Omega.{arith}
 use borrow.Author.Needs.{needs}
 use Rattle.text.specs.Text.{hexDigit, hexOf, Puts}
-use Rattle.text.proofs.Putting.{put-then}
+use Rattle.text.proofs.TextPutting.{put-then}
 use Rattle.text.proofs.figures.put_hex.Statement.{statement}
 use Rattle.text.proofs.figures.put_hex.Tie as tie
 

@@ -6,12 +6,12 @@ use lib.ListN.{length}
 use Rattle.ids.specs.Ids.{valueTag, lamport}
 use Rattle.codec.specs.declared.OptRaw.{OptRaw}
 use Rattle.flash.specs.Image.{sectorsIn}
-use Rattle.records.proofs.fitting.Owned.{whole-log}
+use Rattle.records.proofs.LogsOwned.{whole-log}
 use Rattle.reads.specs.Entering.{entryOf}
-use Rattle.decisions.proofs.outcomes.Calling.{call-ready, call-meets}
+use Rattle.decisions.proofs.OutcomesCalls.{call-ready, call-meets}
 use Rattle.tries.specs.Tries.{advanceOf}
 use Rattle.tries.specs.Tries.{seenOf, advanceDecision, advanceFrom}
-use Rattle.tries.proofs.Keyed.{advance-keyed}
+use Rattle.tries.proofs.TriesKeyed.{advance-keyed}
 use borrow.Author.Needs.{needs}
 use Rattle.tries.proofs.clock.advance_lamport.Statement.{statement}
 use Rattle.tries.proofs.clock.advance_lamport.Tie as tie

@@ -6,12 +6,12 @@ use lib.ListN.{length}
 use Rattle.ids.specs.Ids.{counterTag, isCredential}
 use Rattle.codec.specs.declared.OptRaw.{OptRaw}
 use Rattle.flash.specs.Image.{sectorsIn}
-use Rattle.records.proofs.fitting.Owned.{whole-log}
+use Rattle.records.proofs.LogsOwned.{whole-log}
 use Rattle.reads.specs.Entering.{entryOf}
-use Rattle.decisions.proofs.outcomes.Calling.{call-ready, call-meets}
+use Rattle.decisions.proofs.OutcomesCalls.{call-ready, call-meets}
 use Rattle.tries.specs.Tries.{setOf}
 use Rattle.tries.specs.Tries.{setDecision}
-use Rattle.tries.proofs.Keyed.{set-keyed}
+use Rattle.tries.proofs.TriesKeyed.{set-keyed}
 use borrow.Author.Needs.{needs}
 use Rattle.tries.proofs.spends.set.Statement.{statement}
 use Rattle.tries.proofs.spends.set.Tie as tie

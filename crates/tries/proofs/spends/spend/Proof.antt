@@ -7,12 +7,12 @@ use Rattle.ids.specs.declared.CounterState.{CounterState}
 use Rattle.ids.specs.Ids.{counterTag, isCredential}
 use Rattle.codec.specs.declared.OptRaw.{OptRaw}
 use Rattle.flash.specs.Image.{sectorsIn}
-use Rattle.records.proofs.fitting.Owned.{whole-log}
+use Rattle.records.proofs.LogsOwned.{whole-log}
 use Rattle.reads.specs.Entering.{entryOf}
-use Rattle.decisions.proofs.outcomes.Calling.{call-ready, call-meets}
+use Rattle.decisions.proofs.OutcomesCalls.{call-ready, call-meets}
 use Rattle.tries.specs.Tries.{spendOf}
 use Rattle.tries.specs.Tries.{startOf, spendDecision, spendFrom}
-use Rattle.tries.proofs.Keyed.{spend-keyed}
+use Rattle.tries.proofs.TriesKeyed.{spend-keyed}
 use borrow.Author.Needs.{needs}
 use Rattle.tries.proofs.spends.spend.Statement.{statement}
 use Rattle.tries.proofs.spends.spend.Tie as tie

@@ -1,2 +1,0 @@
--- Laws that the proofs of numbers cite.
-pub mod Bounds
