@@ -2,12 +2,14 @@
 ghost use mathlib.Core.Path.{_≡_};
 ghost use Rattle.basics.specs.Little.{leBytes};
 
+// The two bytes of a number, lowest first.
 pub fn bytes2(x: u16) -> [u8; 2]
     ensures { λ r. ⌜ r ≡ leBytes 2 x ⌝ }
 {
     [(x % 256) as u8, (x / 256) as u8]
 }
 
+// The four bytes of a number, lowest first.
 pub fn bytes4(x: u32) -> [u8; 4]
     ensures { λ r. ⌜ r ≡ leBytes 4 x ⌝ }
 {
@@ -21,6 +23,7 @@ pub fn bytes4(x: u32) -> [u8; 4]
     ]
 }
 
+// The eight bytes of a number, lowest first.
 pub fn bytes8(x: u64) -> [u8; 8]
     ensures { λ r. ⌜ r ≡ leBytes 8 x ⌝ }
 {

@@ -1,15 +1,12 @@
-// Choices, lists, numbers as bytes, and the paper's answers 0 to 9.
-// Here stands what a call answers with; what is defined in specs/ is shared by every crate.
+// What every crate shares: the answers 0 to 9 of document 01, and numbers as bytes, lowest first.
+// specs/ also has the choices and lists that all definitions are written with.
 
-mod le_bytes; // A number as two, four or eight bytes, lowest first
-mod le_numbers; // The number that bytes spell, lowest first
+mod le_bytes; // a number as two, four or eight bytes
+mod le_numbers; // the number that bytes spell
 
-pub use le_bytes::bytes2;
-pub use le_bytes::bytes4;
-pub use le_bytes::bytes8;
-pub use le_numbers::joined;
-pub use le_numbers::number2;
-pub use le_numbers::number4;
+pub use le_bytes::{bytes2, bytes4, bytes8};
+pub use le_numbers::{joined, number2, number4};
+
 ghost use mathlib.Core.Path.{_≡_};
 ghost use Rattle.basics.specs.Answers.{numberOf, isDone};
 
@@ -27,6 +24,7 @@ pub enum Answer {
     IntegrityFailure,
 }
 
+// The number of an answer in document 01's table.
 pub fn number(answer: Answer) -> u8
     ensures { λ r. ⌜ r ≡ numberOf answer ⌝ }
 {
@@ -44,6 +42,7 @@ pub fn number(answer: Answer) -> u8
     }
 }
 
+// Whether an answer is 0: the call was done.
 pub fn is_done(answer: Answer) -> bool
     ensures { λ r. ⌜ r ≡ isDone answer ⌝ }
 {

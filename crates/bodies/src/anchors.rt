@@ -7,7 +7,7 @@ use ids::Anchor;
 ghost use mathlib.Core.Path.{_≡_};
 ghost use Rattle.bodies.specs.Bodies.{anchorRecord, anchorIn};
 
-// Of head_seq there is room for 48 bits.
+// The record of an anchor; a head_seq above 2^48 - 1 has none, and gives 6.
 pub fn anchor_record(anchor: Anchor) -> AnchorRecord
     ensures { λ r. ⌜ r ≡ anchorRecord anchor ⌝ }
 {

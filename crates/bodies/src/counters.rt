@@ -5,6 +5,7 @@ use ids::CounterState;
 ghost use mathlib.Core.Path.{_≡_};
 ghost use Rattle.bodies.specs.Bodies.{counterRecord, counterIn};
 
+// The record of a credential's counter.
 pub fn counter_record(credential: u8, state: CounterState) -> Raw
     ensures { λ r. ⌜ r ≡ counterRecord credential state ⌝ }
 {

@@ -1,17 +1,12 @@
-// The ten bytes of a record, as a counter, a value or an anchor.
-// What the ten bytes of a record's body say, defined, with its round trips.
-// Counters, values and anchors are written and read in crates of these names.
+// "Slot layouts": the ten bytes of a record's body, as a counter, a value or an anchor, both ways.
 
-mod anchors; // An anchor as a record, both ways
-mod counters; // A counter of tries as a record, both ways
-mod values; // A device value as a record, both ways
+mod counters; // a credential's counter of tries
+mod values; // a device value
+mod anchors; // an anchor, of which not every one has a record
 
-pub use anchors::anchor_of;
-pub use anchors::anchor_record;
-pub use counters::counter_of;
-pub use counters::counter_record;
-pub use values::value_of;
-pub use values::value_record;
+pub use anchors::{anchor_of, anchor_record};
+pub use counters::{counter_of, counter_record};
+pub use values::{value_of, value_record};
 
 // What stands here uses:
 use basics::Answer;

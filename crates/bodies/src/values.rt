@@ -4,6 +4,7 @@ use codec::Raw;
 ghost use mathlib.Core.Path.{_≡_};
 ghost use Rattle.bodies.specs.Bodies.{valueRecord, valueIn};
 
+// The record of a value.
 pub fn value_record(id: u8, x: u64) -> Raw
     ensures { λ r. ⌜ r ≡ valueRecord id x ⌝ }
 {

@@ -7,6 +7,7 @@ ghost use mathlib.Core.Path.{_≡_};
 ghost use lib.ListN.{length};
 ghost use Rattle.codec.specs.Slots.{headerBytes, headerSlot, magicAt, headerOf};
 
+// The twelve bytes in front of a header's checksum: magic, seq, version, zeros.
 fn header_bytes(seq: u32) -> [u8; 12]
     ensures { λ r. ⌜ r ≡ headerBytes seq ⌝ }
 {
@@ -28,6 +29,7 @@ fn header_bytes(seq: u32) -> [u8; 12]
     ]
 }
 
+// The header of a sector with this seq, as a slot.
 pub fn encode_header(seq: u32) -> [u8; 16]
     ensures { λ r. ⌜ r ≡ headerSlot seq ⌝ }
 {
@@ -35,6 +37,7 @@ pub fn encode_header(seq: u32) -> [u8; 16]
     seal::seal(b, crc::crc32(&b))
 }
 
+// Whether a slot begins with the four bytes P2RC.
 fn has_magic(slot: &[u8]) -> bool
     requires { ⌜ length (now slot) ≡ 16 ⌝ }
     ensures { λ r. ⌜ r ≡ magicAt (now (slot .entry)) ⌝ }
@@ -52,7 +55,7 @@ fn has_magic(slot: &[u8]) -> bool
     slot[3] == m[3]
 }
 
-// The reader of a header tests magic, version and checksum; what isn't sixteen bytes is no header.
+// The header that a slot holds: magic, version and checksum are tested, bytes 9 to 11 are not. What isn't sixteen bytes is no header.
 pub fn decode_header(slot: &[u8], version: u8) -> Header
     ensures { λ r. ⌜ r ≡ headerOf version (now (slot .entry)) ⌝ }
 {

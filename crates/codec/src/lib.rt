@@ -1,18 +1,15 @@
-// The sixteen bytes of a slot, as a header or a record, with their checksum.
-// The slots of the log: what a record and a header are, the record of zeros, and the test for erased bytes.
+// "Slot layouts": the sixteen bytes of a slot, as a sector's header or as a record, with their checksum.
+// Here stand the types of both, and the test for erased bytes.
 
-mod checksum; // The checksum of a slot
-mod seal; // A slot sealed
-mod headers; // A sector's header as a slot, both ways
-mod slots; // A record as a slot, both ways, under the checksum of its sector
+mod checksum; // the checksum of a slot: begun with the sector's seq, worked, and read
+mod seal; // twelve bytes with their checksum behind them
+mod headers; // a header as a slot, both ways
+mod slots; // a record as a slot, both ways
 
 pub use checksum::under;
-pub use headers::decode_header;
-pub use headers::encode_header;
-pub use slots::decode;
-pub use slots::decode_from;
-pub use slots::encode;
-pub use slots::encode_from;
+pub use headers::{decode_header, encode_header};
+pub use slots::{decode, decode_from, encode, encode_from};
+
 ghost use mathlib.Core.Path.{_≡_};
 ghost use Rattle.basics.specs.Lists.{allAre};
 ghost use Rattle.codec.specs.Slots.{noRaw};

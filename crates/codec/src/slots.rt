@@ -8,6 +8,7 @@ ghost use mathlib.Core.Path.{_≡_};
 ghost use lib.ListN.{length, take};
 ghost use Rattle.codec.specs.Slots.{crcFrom, sealed, bytesOf, slotOf, rawOf, decodedWith, decoded, none};
 
+// No record, beside a record of zeros.
 fn nothing() -> OptRaw
     ensures { λ r. ⌜ r ≡ none ⌝ }
 {
@@ -18,6 +19,7 @@ fn nothing() -> OptRaw
     }
 }
 
+// The record that a slot's first twelve bytes spell.
 fn from_slot(s: &[u8]) -> Raw
     requires { ⌜ length (now s) ≡ 16 ⌝ }
     ensures { λ r. ⌜ r ≡ rawOf (now (s .entry)) ⌝ }

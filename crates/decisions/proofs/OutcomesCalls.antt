@@ -28,7 +28,7 @@ use Rattle.reads.proofs.EnteringLaws.{let-in-by, entry-answer, entry-in, entry-
 use Rattle.decisions.specs.declared.outcomes.Done.{Done}
 use Rattle.decisions.specs.Outcomes.{Outcome, ShowsDone, flashOf, refused, entered}
 use Rattle.decisions.specs.Performing.{performed, decided}
-use Rattle.decisions.specs.Ready.{Shows, FitToWrite, Placed, Ready, performedOn}
+use Rattle.decisions.specs.Ready.{FitToWrite, Placed, Ready, performedOn}
 
 module _ (image : List ℕ) (log : Log) (plan : Plan) (known : Bool) (tag id : ℕ) (e : Entry) (is-entry : e ≡ entryOf (sectorsIn (length image)) log known tag id) where
   abbrev n : ℕ
@@ -61,7 +61,7 @@ module _ (image : List ℕ) (log : Log) (plan : Plan) (known : Bool) (tag id : �
   pub in-room : isDone (e .answer) ≡ true → FitToWrite (length image) n log (record { plan = plan; programmed = 0; erased = 0 })
   in-room h =
       let fit = sectors-fit (length image) in
-      record { few = fit .0; sized = fit .1; fits = let-in-by n log known (entry-in n log known tag id e is-entry h) .1; programmed = omega arith; erased = omega arith }
+      record { few = fit .0; sized = fit .1; fits = let-in-by n log known (entry-in n log known tag id e is-entry h) .1; slots = omega (arith, fit .0); erases = omega (arith, fit .0) }
 
   pub ready : WholeLog log → (d : Decision) → Keyed tag id (e .room) d → Ready (length image) n log (record { plan = plan; programmed = 0; erased = 0 }) e d
   ready whole d k = record { room = in-room; placed = there }
@@ -84,7 +84,7 @@ module _ (image : List ℕ) (log : Log) (plan : Plan) (known : Bool) (tag id : �
     pub call-ready : WholeLog log → Keyed tag id (e .room) (decision (e .held) (e .room)) → Ready (length image) m log used e d
     call-ready whole k = rw (counted, fresh, is-decision) (ready whole (decision (e .held) (e .room)) k)
 
-    pub call-meets : (r : Done) (left : List ℕ) → (cut : Bool) → ShowsDone (performedOn e d m log (flashWith image used cut)) r left → ShowsDone (entered image log plan known (decided tag id decision)) r left
+    pub call-meets : (r : Done) (left : List ℕ) → ((cut : Bool) → ShowsDone (performedOn e d m log (flashWith image used cut)) r left) → ShowsDone (entered image log plan known (decided tag id decision)) r left
     call-meets r left shown =
         let same : performedOn e d m log (flashWith image used false) ≡ entered image log plan known (decided tag id decision) =
         (λ i. performedOn e (is-decision i) (counted i) log (flashWith image (fresh i) false)) ∙ sym (called decision) in

@@ -1,8 +1,8 @@
--- What the steps of a call show, and what the step that performs a decision asks of it.
+-- The steps that perform a decision: what each asks, and what it hands back.
 use mathlib.Core.Path.{_≡_}
-use mathlib.Core.Bool.{Bool, true}
+use mathlib.Core.Bool.{true}
 use mathlib.Core.List.{List}
-use Prim.Native.Nat.{ℕ, _*_, _≤_, _<_}
+use Prim.Native.Nat.{ℕ, _+_, _*_, _≤_, _<_}
 use lib.ListN.{length, take}
 use Rattle.basics.specs.Choice.{pick}
 use Rattle.basics.specs.Answers.{isDone}
@@ -15,16 +15,13 @@ use Rattle.records.specs.Logs.{places, recordsOf}
 use Rattle.records.specs.Fitting.{logFits}
 use Rattle.sectors.specs.declared.Used.{Used}
 use Rattle.sectors.specs.declared.Wrote.{Wrote}
+use Rattle.sectors.specs.Asks.{SlotsMore, SectorsMore}
 use Rattle.decisions.specs.declared.Decision.{Decision}
 use Rattle.decisions.specs.Decisions.{whenActive}
 use Rattle.reads.specs.declared.Entry.{Entry}
 use Rattle.decisions.specs.declared.outcomes.Done.{Done}
-use Rattle.decisions.specs.Outcomes.{Outcome, ShowsDone, refused}
+use Rattle.decisions.specs.Outcomes.{Outcome, refused}
 use Rattle.decisions.specs.Performing.{performed}
-
--- an answer and an image that show this outcome, whatever was cut before
-abbrev pub Shows : (Bool → Outcome) → Done → List ℕ → Type 0
-Shows o r image = (cut : Bool) → ShowsDone (o cut) r image
 
 -- nothing is written
 abbrev pub answeredOf : Answer → ℕ → Log → Used → Done
@@ -48,13 +45,13 @@ finishedOf w value log table count =
       };
     }
 
--- an image of n sectors, a log that fits it, and little enough used before
+-- an image of n sectors, a log that fits it, and counts that can grow by an append
 pub record FitToWrite (len n : ℕ) (log : Log) (used : Used) : Type 0 where
   pub few : n ≤ 16
   pub sized : n * 4096 ≤ len
   pub fits : logFits n log ≡ true
-  pub programmed : used .programmed ≤ 256
-  pub erased : used .erased ≤ 65536
+  pub slots : SlotsMore (3 + n * (limit + 1)) used
+  pub erases : SectorsMore n used
 
 -- places with so many records in front, and zeros only behind them
 pub record Filled (table : List Raw) (count : ℕ) : Type 0 where

@@ -14,10 +14,11 @@ ghost use mathlib.Core.Bool.{Bool};
 ghost use lib.ListN.{length};
 ghost use Rattle.records.specs.declared.State.the-variants.{Active};
 ghost use Rattle.sectors.specs.Shown.{flashWith};
+ghost use Rattle.decisions.specs.Outcomes.{ShowsDone};
 ghost use Rattle.decisions.specs.Performing.{appended};
-ghost use Rattle.decisions.specs.Ready.{Shows, FitToWrite, Placed, Ready, performedOn};
+ghost use Rattle.decisions.specs.Ready.{FitToWrite, Placed, Ready, performedOn};
 
-// Append a record whose key has its place at `at`, and answer with this value.
+// Appends a record whose key has its place at `at`, and answers with this value.
 fn write_record(
     image: &mut [u8],
     log: Log,
@@ -31,7 +32,7 @@ fn write_record(
     value: u64,
 ) -> Done
     requires { ⌜ FitToWrite (length (now image)) sectors log used × (log .state ≡ Active sector seq head) × Placed log at rec ⌝ }
-    ensures { λ r. ⌜ (cut : Bool) → ShowsDone (appended (Active sector seq head) sectors rec value log (flashWith (now (image .entry)) used cut)) r (now (image .exit)) ⌝ }
+    ensures { λ r. ⌜ ((cut : Bool) → ShowsDone (appended (Active sector seq head) sectors rec value log (flashWith (now (image .entry)) used cut)) r (now (image .exit))) ⌝ }
 {
     let count = records::new_count(log.count, at);
     let mut table = log.table;
@@ -51,7 +52,7 @@ fn write_record(
     outcomes::finish(w, value, log, table, count)
 }
 
-// Do what was decided, where the call was let in and the log is Active.
+// Does what was decided, where the call was let in and the log is Active; 4 or 5 where it isn't.
 pub fn perform(
     image: &mut [u8],
     log: Log,
@@ -61,7 +62,7 @@ pub fn perform(
     decision: Decision,
 ) -> Done
     requires { ⌜ Ready (length (now image)) sectors log used entry decision ⌝ }
-    ensures { λ r. ⌜ (cut : Bool) → ShowsDone (performedOn entry decision sectors log (flashWith (now (image .entry)) used cut)) r (now (image .exit)) ⌝ }
+    ensures { λ r. ⌜ ((cut : Bool) → ShowsDone (performedOn entry decision sectors log (flashWith (now (image .entry)) used cut)) r (now (image .exit))) ⌝ }
 {
     let answer = entry.answer;
     if !basics::is_done(answer) {

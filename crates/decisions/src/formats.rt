@@ -12,10 +12,11 @@ ghost use Prim.Native.Nat.{_<_};
 ghost use lib.ListN.{length, take};
 ghost use Rattle.records.specs.declared.State.the-variants.{Unformatted};
 ghost use Rattle.sectors.specs.Shown.{flashWith};
+ghost use Rattle.decisions.specs.Outcomes.{ShowsDone};
 ghost use Rattle.decisions.specs.Performing.{formatted};
-ghost use Rattle.decisions.specs.Ready.{Shows, FitToWrite, Filled};
+ghost use Rattle.decisions.specs.Ready.{FitToWrite, Filled};
 
-// Format a log that was never formatted with the first `count` records of a table.
+// Formats an Unformatted log with the first `count` records of a table, from sector 0 on.
 pub fn format_with(
     image: &mut [u8],
     log: Log,
@@ -25,7 +26,7 @@ pub fn format_with(
     count: usize,
 ) -> Done
     requires { ⌜ FitToWrite (length (now image)) sectors log used × (log .state ≡ Unformatted) × (0 < sectors) × Filled table count ⌝ }
-    ensures { λ r. ⌜ (cut : Bool) → ShowsDone (formatted (take count table) sectors log (flashWith (now (image .entry)) used cut)) r (now (image .exit)) ⌝ }
+    ensures { λ r. ⌜ ((cut : Bool) → ShowsDone (formatted (take count table) sectors log (flashWith (now (image .entry)) used cut)) r (now (image .exit))) ⌝ }
 {
     let state = log.state;
     let w = sectors::commit(

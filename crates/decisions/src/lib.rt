@@ -1,26 +1,19 @@
-// What a call decides on the record that it finds, and what comes of a decision.
-// What a call can decide on the record that is held of its key: to refuse, to answer without a write, or to write a record.
-// What put, put_value and put_anchor decide is defined in specs/ and worked out in puts and anchors.
+// What a call decides on the record held of its key (to refuse, to answer without a write, or to write a record), and what comes of it.
+// Here stands what a decision is; the calls themselves stand in log and tries.
 
-pub mod seeds; // The seeds of a format
-mod puts; // What put and put_value decide
-mod anchors; // What put_anchor decides
-pub mod outcomes; // What a call hands back
-mod actions; // What comes of a decision
-mod formats; // What comes of a format
+mod puts; // what put and put_value decide
+mod anchors; // what put_anchor decides
+mod seeds; // the seeds of a format, and the table that they make
+mod actions; // a decision performed: an answer, or a record appended
+mod formats; // a format performed: a table committed
+mod outcomes; // what a call hands back
 
 pub use actions::perform;
 pub use anchors::anchor_decision;
 pub use formats::format_with;
-pub use outcomes::Done;
-pub use outcomes::answered;
-pub use outcomes::unused;
-pub use puts::put_decision;
-pub use puts::value_decision;
-pub use seeds::SEEDS;
-pub use seeds::Seed;
-pub use seeds::seed_table;
-pub use seeds::seeds_known;
+pub use outcomes::{Done, answered, unused};
+pub use puts::{put_decision, value_decision};
+pub use seeds::{SEEDS, Seed, Seeded, seed_table, seeds_known};
 
 // What stands here uses:
 use basics::Answer;
@@ -49,7 +42,7 @@ pub fn answers(answer: Answer, value: u64) -> Decision
     }
 }
 
-// A record to write, where there is room for its key.
+// A record to write, and this value to answer; 8 where there is no room for its key.
 pub fn writes(room: bool, rec: Raw, reply: u64) -> Decision
     ensures { λ r. ⌜ r ≡ write room rec reply ⌝ }
 {

@@ -31,7 +31,7 @@ pub fn unused(plan: Plan) -> Used
     }
 }
 
-// Nothing is written: the log is handed back as it came.
+// An answer without a write: the log is handed back as it came.
 pub fn answered(answer: Answer, value: u64, log: Log, used: Used) -> Done
     ensures { λ r. ⌜ r ≡ answeredOf answer value log used ⌝ }
 {
@@ -46,7 +46,7 @@ pub fn answered(answer: Answer, value: u64, log: Log, used: Used) -> Done
     }
 }
 
-// What was written becomes the log.
+// An answer after a write: where it is done the new table becomes the log's, else the old one stays.
 pub fn finish(w: Wrote, value: u64, log: Log, table: [Raw; LIMIT], count: usize) -> Done
     ensures { λ r. ⌜ r ≡ finishedOf w value log table count ⌝ }
 {

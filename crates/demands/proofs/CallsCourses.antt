@@ -26,7 +26,7 @@ use Rattle.records.specs.declared.State.the-variants.{Unformatted, Failed, Acti
 use Rattle.records.specs.declared.Log.{Log}
 use Rattle.records.specs.Table.{limit, joined, hasRoom}
 use Rattle.records.specs.Logs.{logOf, recordsOf}
-use Rattle.records.specs.Fitting.{logFits}
+use Rattle.records.specs.Fitting.{logFits, seqMax}
 use Rattle.sectors.specs.Sectors.{writeSector}
 use Rattle.sectors.specs.Commits.{Written, sectorAfter, commitFrom, commitFirst}
 use Rattle.sectors.specs.Appends.{appendOf}
@@ -58,7 +58,7 @@ unfolding commitFrom
 commit-fresh zero n a s t last state next f within h = λ e. absurd (false≢true (sym h ∙ e))
 commit-fresh (suc m) n a s t last state next f within h =
     by-test P (eqb s a) _ _ (λ _. commit-fresh m n a (sectorAfter n s) t last state next f (after-within n s within) h)
-    (λ _. by-test P (eqb next 4294967295) _ _ (λ _ e. absurd (false≢true e))
+    (λ _. by-test P (eqb next seqMax) _ _ (λ _ e. absurd (false≢true e))
     (λ _. by-test P (isDone (writeSector s next t f .answer)) _ _ (λ _ e. record { sector = s; seq = next; within = within; state-is = refl })
     (λ d. commit-fresh m n a (sectorAfter n s) t (writeSector s next t f .answer) state (next + 1) (writeSector s next t f .flash) (after-within n s within) d)))
   where

@@ -6,6 +6,7 @@ use lib.Dec.{eqb}
 use lib.ListN.{length}
 use borrow.Author.Tests.{eqb-false}
 use mathlib.Core.Path.{_≡_}
+use Rattle.records.specs.Fitting.{seqMax}
 use Rattle.basics.specs.Answers.{isDone}
 use Rattle.basics.specs.declared.Answer.{Answer}
 use Rattle.basics.specs.declared.Answer.the-variants.{WriteError}
@@ -55,7 +56,7 @@ module _ (R : Flash → Flash → Type 0) (stays : (f : Flash) → R f f) (follo
     commit-trace zero s last state next f within = stays f
     commit-trace (suc m) s last state next f within =
         by-test (λ (w : Written). R f (w .flash)) (eqb s a) _ _ (λ _. commit-trace m (sectorAfter n s) last state next f (after-within n s within))
-        (λ e. by-test (λ (w : Written). R f (w .flash)) (eqb next 4294967295) _ _ (λ _. stays f)
+        (λ e. by-test (λ (w : Written). R f (w .flash)) (eqb next seqMax) _ _ (λ _. stays f)
         (λ _. by-test (λ (w : Written). R f (w .flash)) (isDone (writeSector s next t f .answer)) _ _ (λ _. one-trace s next f within (eqb-false s a e))
         (λ _. follows f (writeSector s next t f .flash) _ (one-trace s next f within (eqb-false s a e))
         (commit-trace m (sectorAfter n s) (writeSector s next t f .answer) state (next + 1) (writeSector s next t f .flash) (after-within n s within)))))

@@ -21,7 +21,7 @@ use Rattle.flash.proofs.RunLaws.{Programmed, program-refused, program-stopped, 
 use Rattle.records.specs.declared.State.{State}
 use Rattle.records.specs.declared.State.the-variants.{Unformatted, Active, Failed}
 use Rattle.records.specs.declared.Log.{Log}
-use Rattle.records.specs.Fitting.{logFits}
+use Rattle.records.specs.Fitting.{logFits, seqMax}
 use Rattle.sectors.specs.Sectors.{onDone, writeRecords, writeSector}
 use Rattle.sectors.specs.Commits.{Written, sectorAfter, commitFrom}
 use Rattle.sectors.specs.Appends.{SlotTries, triesFrom, appendOf}
@@ -88,7 +88,7 @@ unfolding commitFrom
 commit-answers zero n a s t last state next f h = h
 commit-answers (suc m) n a s t last state next f h =
     by-test (λ (w : Written). FromFlash (w .answer)) (eqb s a) _ _ (λ _. commit-answers m n a (sectorAfter n s) t last state next f h)
-    (λ _. by-test (λ (w : Written). FromFlash (w .answer)) (eqb next 4294967295) _ _ (λ _. refl)
+    (λ _. by-test (λ (w : Written). FromFlash (w .answer)) (eqb next seqMax) _ _ (λ _. refl)
     (λ _. by-test (λ (w : Written). FromFlash (w .answer)) (isDone (writeSector s next t f .answer)) _ _ (λ _. refl)
     (λ _. commit-answers m n a (sectorAfter n s) t (writeSector s next t f .answer) state (next + 1) (writeSector s next t f .flash) (sector-answers s next t f))))
 

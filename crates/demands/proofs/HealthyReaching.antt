@@ -74,7 +74,7 @@ unfolding commitFrom
 commit-used-idle zero n a s t last state next f h e = record { fails = h; state-is = refl; next-is = refl; flash-is = refl }
 commit-used-idle (suc m) n a s t last state next f h e =
     by-test (λ (w : Written). Idle f w state next) (eqb s a) _ _ (λ _. commit-used-idle m n a (sectorAfter n s) t last state next f h e)
-    (λ _. rw (eq-eqb next 4294967295 e) (record { fails = refl; state-is = refl; next-is = refl; flash-is = refl }))
+    (λ _. rw (eq-eqb next seqMax e) (record { fails = refl; state-is = refl; next-is = refl; flash-is = refl }))
 
 -- "or 6 if none was tried (n = 1)"
 commit-alone-idle : (t : List Raw) (state : State) (next : ℕ) (f : Flash) → Idle f (commitAfter 1 0 t state next f) state next

@@ -30,7 +30,7 @@ use Rattle.records.specs.declared.Log.{Log}
 use Rattle.records.specs.Table.{limit, joined, hasRoom}
 use Rattle.records.specs.Logs.{logOf, recordsOf}
 use Rattle.records.proofs.LogsPlaces.{places-take}
-use Rattle.records.specs.Fitting.{logFits}
+use Rattle.records.specs.Fitting.{logFits, seqMax}
 use Rattle.records.proofs.FittingLaws.{fits-clauses, fits-active, fits-unformatted}
 use Rattle.decisions.specs.Outcomes.{Outcome, flashOf}
 use Rattle.decisions.specs.Performing.{writtenOutcome}
@@ -100,7 +100,7 @@ unfolding commitFrom
 commit-state zero n a s t last state next f h = λ e. refl
 commit-state (suc m) n a s t last state next f h =
     by-test P (eqb s a) _ _ (λ _. commit-state m n a (sectorAfter n s) t last state next f h)
-    (λ _. by-test P (eqb next 4294967295) _ _ (λ _ e. refl)
+    (λ _. by-test P (eqb next seqMax) _ _ (λ _ e. refl)
     (λ _. by-test P (isDone (writeSector s next t f .answer)) _ _ (λ _ e. absurd (false≢true (sym e)))
     (λ d. commit-state m n a (sectorAfter n s) t (writeSector s next t f .answer) state (next + 1) (writeSector s next t f .flash) d)))
   where

@@ -166,7 +166,7 @@ unfolding commitFrom
 commit-still zero n a s t last state next f c h = record { fails = h; same = refl; cut = c }
 commit-still (suc m) n a s t last state next f c h =
     by-test (StillWrote f) (eqb s a) _ _ (λ _. commit-still m n a (sectorAfter n s) t last state next f c h)
-    (λ _. by-test (StillWrote f) (eqb next 4294967295) _ _ (λ _. record { fails = refl; same = refl; cut = c })
+    (λ _. by-test (StillWrote f) (eqb next seqMax) _ _ (λ _. record { fails = refl; same = refl; cut = c })
     (λ _. by-test (StillWrote f) (isDone (writeSector s next t f .answer)) _ _ (λ d. absurd (false≢true (sym (sector-still s next t f c .fails) ∙ d)))
     (λ _.
     let e = sector-still s next t f c in
@@ -197,9 +197,9 @@ module _ (n a : ℕ) (C : List ℕ → Type 0) (P : Seen → Type 0) (state : St
   commit-safe zero s last next f within on h g = failed h on g p
   commit-safe (suc m) s last next f within on h g =
       by-test Fine (eqb s a) _ _ (λ _. commit-safe m (sectorAfter n s) last next f (after-within n s within) on h g)
-      (λ sa. by-test Fine (eqb next 4294967295) _ _ (λ _. failed refl on g p)
+      (λ sa. by-test Fine (eqb next seqMax) _ _ (λ _. failed refl on g p)
       (λ nm.
-      let below-most = eqb-false next 4294967295 nm in
+      let below-most = eqb-false next seqMax nm in
       let lt : next < seqMax = omega (arith, g .most) in
       one-sector s next f (writeSector s next new f) _ lt g
       (sector-sectored n a s next within (eqb-false s a sa) lt new proper f (agrees-size n a (f .image) next old state v g) (g .bytes) (found-below n a (f .image) next old state v below-most (g .found)) on)

@@ -8,6 +8,7 @@ use native.Mathlib.Omega.{arith}
 use lib.Dec.{eqb, ltb}
 use lib.ListN.{length}
 use borrow.Author.Tests.{eq-eqb, eqb-true, eqb-false, ltb-true, ltb-false}
+use Rattle.records.specs.Fitting.{seqMax}
 use Rattle.basics.specs.Choice.{pick}
 use Rattle.basics.specs.Answers.{isDone}
 use Rattle.basics.specs.declared.Answer.{Answer}
@@ -93,7 +94,7 @@ module _ (t : List Raw) where
   commit-costs (suc m) n a s last state next f =
       by-test (Costs (turns (suc m) n a s) f) (eqb s a) _ _ (λ e. rw e (commit-costs m n a (sectorAfter n s) last state next f))
       (λ e. rw e
-      (by-test (Costs (suc (turns m n a (sectorAfter n s))) f) (eqb next 4294967295) _ _ (λ _. costs-none (suc (turns m n a (sectorAfter n s))) f)
+      (by-test (Costs (suc (turns m n a (sectorAfter n s))) f) (eqb next seqMax) _ _ (λ _. costs-none (suc (turns m n a (sectorAfter n s))) f)
       (λ _. by-test (Costs (suc (turns m n a (sectorAfter n s))) f) (isDone (writeSector s next t f .answer)) _ _
       (λ _. costs-on (turns m n a (sectorAfter n s)) f (writeSector s next t f .flash) (writeSector s next t f .flash) (sector-within s next t f) (costs-none (turns m n a (sectorAfter n s)) (writeSector s next t f .flash)))
       (λ _. costs-on (turns m n a (sectorAfter n s)) f (writeSector s next t f .flash) _ (sector-within s next t f)

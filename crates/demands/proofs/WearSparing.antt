@@ -7,6 +7,7 @@ use native.Mathlib.Omega.{arith}
 use lib.Dec.{eqb}
 use lib.ListN.{length}
 use borrow.Author.Tests.{eqb-false}
+use Rattle.records.specs.Fitting.{seqMax}
 use Rattle.basics.specs.Choice.{pick}
 use Rattle.basics.specs.Answers.{isDone}
 use Rattle.basics.specs.declared.Answer.{Answer}
@@ -165,7 +166,7 @@ commit-freed n a t zero s last state next f within = λ c. refl
 commit-freed n a t (suc m) s last state next f within =
     chosen freedWrote (λ (w : Written). w .flash) (eqb s a) (commitFrom m n a (sectorAfter n s) t last state next f) (commitFrom m n a (sectorAfter n s) t last state next (freed f)) (used f) (used (freed f))
     (commit-freed n a t m (sectorAfter n s) last state next f (after-within n s within))
-    (chosen freedWrote (λ (w : Written). w .flash) (eqb next 4294967295) (held f) (held (freed f)) (written f) (written (freed f)) (λ _. refl)
+    (chosen freedWrote (λ (w : Written). w .flash) (eqb next seqMax) (held f) (held (freed f)) (written f) (written (freed f)) (λ _. refl)
     (branch freedWrote (λ (w : Written). w .flash) (writeSector s next t f) (writeSector s next t (freed f)) (sector-freed s next t f)
     (λ (q : Stepped). record { answer = Done; state = Active s next (length t + 1); next = next + 1; flash = q .flash }) (λ (q : Stepped). commitFrom m n a (sectorAfter n s) t (q .answer) state (next + 1) (q .flash))
     (λ c. c) (commit-uncut n a t m (sectorAfter n s) (writeSector s next t f .answer) state (next + 1) (writeSector s next t f .flash) (after-within n s within))
@@ -180,7 +181,7 @@ commit-freed n a t (suc m) s last state next f within =
         (commitFrom m n a (sectorAfter n s) t (writeSector s next t g .answer) state (next + 1) (writeSector s next t g .flash))
 
     used : Flash → Written
-    used g = pick (eqb next 4294967295) (held g) (written g)
+    used g = pick (eqb next seqMax) (held g) (written g)
 
 tries-uncut : (m s head : ℕ) (bytes : List ℕ) (last : Answer) (f : Flash) → head ≤ 256 → Uncut f (triesFrom m s head bytes last f .flash)
 tries-uncut m s head bytes last f high = tries-trace Uncut uncut-none uncut-on (λ s. Any) Any (λ s k new f _. program-uncut s k new f) (λ s f _. erase-uncut s f) m s head bytes last f high (λ i l u z. tt)

@@ -1,5 +1,6 @@
 // Erasing a sector of an image: its bytes become FF in order,
 // and all of it is checked.
+use crate::SECTOR;
 use basics::Answer;
 ghost use mathlib.Core.Path.{_≡_};
 ghost use Prim.Native.Nat.{_+_, _*_, _≤_};
@@ -25,10 +26,10 @@ pub fn erase_sector(image: &mut [u8], sector: usize, n: usize) -> Answer
     ensures { λ r. ⌜ (r ≡ eraseAnswer n (blanked n (sectorAt (now (image .entry)) sector)))
         × (now (image .exit) ≡ withSector sector (blanked n (sectorAt (now (image .entry)) sector)) (now (image .entry))) ⌝ }
 {
-    let a = sector * 4096;
-    let e = a + 4096;
+    let a = sector * SECTOR;
+    let e = a + SECTOR;
     blank(&mut image[a..e], n);
-    if n < 4096 {
+    if n < SECTOR {
         return Answer::EraseError;
     }
     if codec::is_erased(&image[a..e]) {

@@ -16,7 +16,7 @@ use Rattle.flash.specs.Image.{sectorsIn}
 use Rattle.flash.specs.Run.{Flash, Stepped}
 use Rattle.sectors.specs.declared.Used.{Used}
 use Rattle.sectors.specs.declared.Step.{Step}
-use Rattle.sectors.specs.Shown.{ShowsStep, Steps, flashWith}
+use Rattle.sectors.specs.Shown.{ShowsStep, flashWith}
 use Rattle.decisions.specs.Outcomes.{flashOf}
 use Rattle.host.specs.LentFlash.{placeAnswer, within}
 
@@ -42,5 +42,5 @@ module _ (image : List ℕ) (sector : ℕ) (plan : Plan) (slot : ℕ) (outside :
   unfolding refusal
   refused-step e = subst (λ (o : Stepped). ShowsStep o (record { answer = a; used = u }) image) (sym (by-place false e)) (record { shown = λ i. record { answer = found i; used = unused i }; left = refl })
 
-  pub made-step : isDone a ≡ true → (r : Step) (left : List ℕ) → (cut : Bool) → ShowsStep (run (flashWith image u cut)) r left → ShowsStep (within image sector plan slot outside run) r left
+  pub made-step : isDone a ≡ true → (r : Step) (left : List ℕ) → ((cut : Bool) → ShowsStep (run (flashWith image u cut)) r left) → ShowsStep (within image sector plan slot outside run) r left
   made-step e r left st = subst (λ (o : Stepped). ShowsStep o r left) (sym (by-place true e)) (subst (λ (v : Used). ShowsStep (run (flashWith image v false)) r left) unused (st false))

@@ -12,6 +12,7 @@ pub struct Attempted {
     pub spent: Done,
 }
 
+// Both, as one answer.
 fn both(numbered: Done, spent: Done) -> Attempted
     ensures { λ r. ⌜ r ≡ record { numbered = numbered; spent = spent } ⌝ }
 {
@@ -21,6 +22,7 @@ fn both(numbered: Done, spent: Done) -> Attempted
     }
 }
 
+// The log that a call hands back.
 fn log_after(done: Done) -> Log
     ensures { λ r. ⌜ r ≡ done .log ⌝ }
 {
@@ -28,6 +30,7 @@ fn log_after(done: Done) -> Log
     log
 }
 
+// What an applet does on a PIN attempt: the clock's next number, then one try spent, whatever came of the number.
 pub fn attempt(
     image: &mut [u8],
     log: Log,

@@ -8,7 +8,7 @@ ghost use Rattle.sectors.specs.Shown.{ShowsStep};
 ghost use Rattle.host.specs.LentFlash.{ShowsStepLent, placeAnswer, programOf, eraseOf};
 
 // The plan that a program or an erase hands back.
-fn plan_left(step: Step) -> Plan
+pub fn plan_left(step: Step) -> Plan
     ensures { λ r. ⌜ r ≡ step .used .plan ⌝ }
 {
     let used = step.used;
@@ -32,6 +32,7 @@ fn place_answer(n: usize, sector: usize, slot: usize, outside: Answer) -> Answer
     Answer::Done
 }
 
+// A slot programmed, on a plan by value.
 fn program_by_value(
     image: &mut [u8],
     sector: usize,
@@ -53,6 +54,7 @@ fn program_by_value(
     sectors::program(image, sector, slot, bytes, used)
 }
 
+// A sector erased, on a plan by value.
 fn erase_by_value(image: &mut [u8], sector: usize, plan: Plan) -> Step
     ensures { λ r. ⌜ ShowsStep (eraseOf (now (image .entry)) sector plan) r (now (image .exit)) ⌝ }
 {
@@ -68,6 +70,7 @@ fn erase_by_value(image: &mut [u8], sector: usize, plan: Plan) -> Step
     sectors::erase(image, sector, used)
 }
 
+// Programs a slot and reads it back; 1 where the image is none, 6 where it has no such slot.
 pub fn program(
     image: &mut [u8],
     sector: usize,
@@ -82,6 +85,7 @@ pub fn program(
     step
 }
 
+// Erases a sector and checks it; 1 where the image is none, 7 where it has no such sector.
 pub fn erase(image: &mut [u8], sector: usize, plan: &mut Plan) -> Step
     ensures { λ r. ⌜ ShowsStepLent (eraseOf (now (image .entry)) sector (now (plan .entry))) r (now (image .exit)) (now (plan .exit)) ⌝ }
 {

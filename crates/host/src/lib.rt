@@ -1,14 +1,11 @@
-// The same calls on a plan that is lent and run down in place; a PIN attempt.
-// The host build: calls on a plan that is lent, and run down in place, call after call.
+// The host build: the calls that write, on a plan that is lent and run down in place, call after call.
 // Each takes the plan out whole, makes the call by value, and puts back whole what the call left of it.
 
-mod lent; // The flash with a plan that is lent, and run down in place
-pub mod attempts; // A PIN attempt
+mod lent; // a program and an erase on a lent plan
+mod attempts; // a PIN attempt: its number, then its try, on one plan
 
-pub use attempts::Attempted;
-pub use attempts::attempt;
-pub use lent::erase;
-pub use lent::program;
+pub use attempts::{Attempted, attempt};
+pub use lent::{erase, program};
 
 // What stands here uses:
 use decisions::Done;
@@ -31,6 +28,7 @@ fn plan_after(done: Done) -> Plan
     plan
 }
 
+// `log::put` on a lent plan.
 pub fn put(image: &mut [u8], log: Log, plan: &mut Plan, credential: u8, new: CounterState) -> Done
     ensures { λ r. ⌜ ShowsDoneLent (putOf (now (image .entry)) log (now (plan .entry)) credential new) r (now (image .exit)) (now (plan .exit)) ⌝ }
 {
@@ -39,6 +37,7 @@ pub fn put(image: &mut [u8], log: Log, plan: &mut Plan, credential: u8, new: Cou
     done
 }
 
+// `log::put_value` on a lent plan.
 pub fn put_value(image: &mut [u8], log: Log, plan: &mut Plan, id: u8, new: u64) -> Done
     ensures { λ r. ⌜ ShowsDoneLent (putValueOf (now (image .entry)) log (now (plan .entry)) id new) r (now (image .exit)) (now (plan .exit)) ⌝ }
 {
@@ -47,6 +46,7 @@ pub fn put_value(image: &mut [u8], log: Log, plan: &mut Plan, id: u8, new: u64) 
     done
 }
 
+// `log::put_anchor` on a lent plan.
 pub fn put_anchor(image: &mut [u8], log: Log, plan: &mut Plan, new: Anchor) -> Done
     ensures { λ r. ⌜ ShowsDoneLent (putAnchorOf (now (image .entry)) log (now (plan .entry)) new) r (now (image .exit)) (now (plan .exit)) ⌝ }
 {
@@ -55,6 +55,7 @@ pub fn put_anchor(image: &mut [u8], log: Log, plan: &mut Plan, new: Anchor) -> D
     done
 }
 
+// `log::format` on a lent plan.
 pub fn format(
     image: &mut [u8],
     log: Log,
@@ -69,6 +70,7 @@ pub fn format(
     done
 }
 
+// `tries::spend` on a lent plan.
 pub fn spend(image: &mut [u8], log: Log, plan: &mut Plan, credential: u8, current: u8) -> Done
     ensures { λ r. ⌜ ShowsDoneLent (spendOf (now (image .entry)) log (now (plan .entry)) credential current) r (now (image .exit)) (now (plan .exit)) ⌝ }
 {
@@ -77,6 +79,7 @@ pub fn spend(image: &mut [u8], log: Log, plan: &mut Plan, credential: u8, curren
     done
 }
 
+// `tries::set` on a lent plan.
 pub fn set(image: &mut [u8], log: Log, plan: &mut Plan, credential: u8, tries: u8) -> Done
     ensures { λ r. ⌜ ShowsDoneLent (setOf (now (image .entry)) log (now (plan .entry)) credential tries) r (now (image .exit)) (now (plan .exit)) ⌝ }
 {
@@ -85,6 +88,7 @@ pub fn set(image: &mut [u8], log: Log, plan: &mut Plan, credential: u8, tries: u
     done
 }
 
+// `tries::advance_lamport` on a lent plan.
 pub fn advance_lamport(image: &mut [u8], log: Log, plan: &mut Plan, seen: u64) -> Done
     ensures { λ r. ⌜ ShowsDoneLent (advanceOf (now (image .entry)) log (now (plan .entry)) seen) r (now (image .exit)) (now (plan .exit)) ⌝ }
 {

@@ -1,12 +1,9 @@
-// Credentials, values and anchors; what a tag and id mean; the counter of tries.
-// The numbers in a record: device values, tags and what they can mean,
-// and the counter of failed tries that is kept for each credential.
+// Credentials, values and anchors by their numbers, what a tag and id mean, and the counter of tries.
+// The counter's methods are the paper's: remaining, after a failure, after a reset.
 
-mod meanings; // What the numbers in a record stand for
+mod meanings; // which ids are known, and what a tag and id mean
 
-pub use meanings::is_credential;
-pub use meanings::is_monotonic;
-pub use meanings::is_value;
+pub use meanings::{is_credential, is_monotonic, is_value, meaning_of};
 
 // What stands here uses:
 use basics::Answer;
@@ -71,6 +68,7 @@ pub enum Next {
     Refused(Answer),
 }
 
+// The head of a key store's log, by which the store is found again.
 pub struct Anchor {
     pub format_gen: u16,
     pub head_seq: u64,
@@ -78,7 +76,7 @@ pub struct Anchor {
 }
 
 impl CounterState {
-    // A credential that nobody has tried yet.
+    // The counter of a credential that nobody has tried yet.
     pub fn fresh(allowance: u8) -> Self
         ensures { λ r. ⌜ r ≡ freshOf allowance ⌝ }
     {
@@ -89,7 +87,7 @@ impl CounterState {
         }
     }
 
-    // A number at reset above the total reads as no tries left, rather than as extra ones.
+    // The tries that are left: 0 if total is below at_reset, else the allowance less the failures since the reset, not below 0.
     pub fn remaining(self) -> u8
         ensures { λ r. ⌜ r ≡ remainingOf self ⌝ }
     {
@@ -106,7 +104,7 @@ impl CounterState {
         (allowance - spent) as u8
     }
 
-    // The total never wraps: that would hand back tries.
+    // The counter after one failure more. At the highest total it is refused: a total that wrapped would hand back tries.
     pub fn after_failure(self) -> Next
         ensures { λ r. ⌜ r ≡ failedOf self ⌝ }
     {
@@ -120,6 +118,7 @@ impl CounterState {
         })
     }
 
+    // The counter after a reset to this many tries.
     pub fn after_reset(self, tries: u8) -> Self
         ensures { λ r. ⌜ r ≡ resetOf self tries ⌝ }
     {

@@ -15,7 +15,8 @@ ghost use Rattle.ids.specs.Ids.{credentials, placeOf, isCredential, isVa
 // The credential numbers in their order, for look-up too.
 const CREDENTIALS: [u8; 7] = [0x01, 0x02, 0x03, 0x11, 0x12, 0x21, 0x22];
 
-pub fn place_of(id: u8) -> Place
+// The place of a credential in that table.
+fn place_of(id: u8) -> Place
     ensures { λ r. ⌜ r ≡ placeOf credentials id ⌝ }
 {
     for i in 0..CREDENTIALS.len() {
@@ -26,6 +27,7 @@ pub fn place_of(id: u8) -> Place
     Place::Unknown
 }
 
+// Whether this is one of the seven credentials.
 pub fn is_credential(id: u8) -> bool
     ensures { λ r. ⌜ r ≡ isCredential id ⌝ }
 {
@@ -35,6 +37,7 @@ pub fn is_credential(id: u8) -> bool
     }
 }
 
+// Whether this is one of the value ids 1 to 8.
 pub fn is_value(id: u8) -> bool
     ensures { λ r. ⌜ r ≡ isValue id ⌝ }
 {
@@ -44,6 +47,7 @@ pub fn is_value(id: u8) -> bool
     }
 }
 
+// What a tag and id mean, by cases.
 pub fn meaning_of(tag: u8, id: u8) -> Meaning
     ensures { λ r. ⌜ r ≡ meaningOf tag id ⌝ }
 {
@@ -65,7 +69,7 @@ pub fn meaning_of(tag: u8, id: u8) -> Meaning
     }
 }
 
-// An unknown id is not monotonic: of such records the last one counts.
+// Whether records of this tag and id hold a value that may not fall. An unknown id is none: of such records the last one counts.
 pub fn is_monotonic(tag: u8, id: u8) -> bool
     ensures { λ r. ⌜ r ≡ isMonotonic tag id ⌝ }
 {

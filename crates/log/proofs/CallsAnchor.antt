@@ -3,7 +3,7 @@ use mathlib.Core.Path.{_≡_, refl, sym, ap, _∙_}
 use mathlib.Core.Bool.{Bool, true, false, false≢true}
 use mathlib.Core.Logic.{inl}
 use mathlib.Core.List.{List, []}
-use Prim.Native.Nat.{ℕ, _≤_, _<_}
+use Prim.Native.Nat.{ℕ, _*_, _≤_, _<_}
 use native.Mathlib.Omega.{arith}
 use lib.ListN.{length}
 use Rattle.basics.specs.Choice.{pick}
@@ -42,7 +42,8 @@ module _ (n : ℕ) (log : Log) (f : Flash) where
   abbrev made : Written
   made = commitFirst n [] (log .state) (log .«next_seq») f
 
-  pub format-cheap : n ≤ 16 → f .programmed ≤ 0 → f .erased ≤ 0 → (made .flash .programmed ≤ 256) × (made .flash .erased ≤ 65536)
+  -- it writes headers only: sixteen bytes a sector
+  pub format-cheap : n ≤ 16 → f .programmed ≡ 0 → f .erased ≡ 0 → (made .flash .programmed ≤ 16 * n) × (made .flash .erased ≤ 4096 * n)
   format-cheap few p e =
       let w = commit-within n n n 0 [] WriteError (log .state) (log .«next_seq») f in
       (omega (arith, w .programmed), omega (arith, w .erased))

@@ -1,5 +1,4 @@
-// The call put_anchor. It looks for itself, decides, and performs what it decided;
-// the first anchor of a log that was never formatted formats it.
+// The call put_anchor, and its first anchor: on an Unformatted log it formats empty first.
 use basics::Answer;
 use codec::OptRaw;
 use codec::Raw;
@@ -11,19 +10,16 @@ use records::Log;
 use records::State;
 use sectors::Used;
 ghost use mathlib.Core.Path.{_≡_};
-ghost use mathlib.Core.Bool.{Bool, true};
+ghost use mathlib.Core.Bool.{Bool};
 ghost use mathlib.Core.List.{[]};
-ghost use Prim.Native.Nat.{_≤_, _<_};
 ghost use lib.ListN.{length};
-ghost use Rattle.records.specs.declared.State.the-variants.{Unformatted};
 ghost use Rattle.sectors.specs.Shown.{flashWith};
 ghost use Rattle.decisions.specs.Outcomes.{ShowsDone};
 ghost use Rattle.decisions.specs.Performing.{formatted};
-ghost use Rattle.decisions.specs.Ready.{Shows, FitToWrite};
-ghost use Rattle.log.specs.Calls.{isFirst, anchoredFirst, putAnchorOf};
-ghost use Rattle.log.specs.FirstAnchor.{opensLog};
+ghost use Rattle.log.specs.Calls.{anchoredFirst, putAnchorOf};
+ghost use Rattle.log.specs.FirstAnchor.{opensLog, FitForFirst};
 
-// Whether a call that was let in brings the first anchor of a log that was never formatted.
+// Whether a call that was let in brings the first anchor: the log is Unformatted, head_seq and head_slot are 0.
 fn is_first(answer: Answer, state: State, new: Anchor) -> bool
     ensures { λ r. ⌜ r ≡ opensLog answer state new ⌝ }
 {
@@ -46,10 +42,10 @@ fn is_first(answer: Answer, state: State, new: Anchor) -> bool
     }
 }
 
-// The first anchor formats the log empty, and is then its first record.
+// The first anchor: the log is formatted empty, and then the anchor is its first record.
 fn first_anchor(image: &mut [u8], log: Log, used: Used, sectors: usize, new: Anchor) -> Done
-    requires { ⌜ FitToWrite (length (now image)) sectors log used × (log .state ≡ Unformatted) × (0 < sectors) × (used .programmed ≤ 0) × (used .erased ≤ 0) × (isFirst new ≡ true) ⌝ }
-    ensures { λ r. ⌜ (cut : Bool) → ShowsDone (anchoredFirst new sectors (formatted [] sectors log (flashWith (now (image .entry)) used cut))) r (now (image .exit)) ⌝ }
+    requires { ⌜ FitForFirst (length (now image)) sectors log used ⌝ }
+    ensures { λ r. ⌜ ((cut : Bool) → ShowsDone (anchoredFirst new sectors (formatted [] sectors log (flashWith (now (image .entry)) used cut))) r (now (image .exit))) ⌝ }
 {
     let f = decisions::format_with(image, log, used, sectors, records::empty_table(), 0);
     let answer = f.answer;
@@ -78,6 +74,7 @@ fn first_anchor(image: &mut [u8], log: Log, used: Used, sectors: usize, new: Anc
     decisions::perform(image, empty, left, sectors, e, d)
 }
 
+// Writes the anchor. An equal one is 0; the same format_gen with a smaller head_seq is 9; a head_seq above 2^48 - 1 is 6.
 pub fn put_anchor(image: &mut [u8], log: Log, plan: Plan, new: Anchor) -> Done
     ensures { λ r. ⌜ ShowsDone (putAnchorOf (now (image .entry)) log plan new) r (now (image .exit)) ⌝ }
 {

@@ -10,6 +10,7 @@ use records::State;
 ghost use Rattle.decisions.specs.Outcomes.{ShowsDone};
 ghost use Rattle.log.specs.Calls.{formatOf};
 
+// Formats an Unformatted log with the first `count` seeds; any other log is 6. Places past the count are not looked at.
 pub fn format(image: &mut [u8], log: Log, plan: Plan, seeds: [Seed; SEEDS], count: usize) -> Done
     ensures { λ r. ⌜ ShowsDone (formatOf (now (image .entry)) log plan seeds count) r (now (image .exit)) ⌝ }
 {

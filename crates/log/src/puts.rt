@@ -1,4 +1,4 @@
-// The calls that write one record: put and put_value. Each looks for itself, decides, and performs what it decided.
+// The calls that write one record of a key: put and put_value.
 use decisions::Done;
 use flash::Plan;
 use ids::CounterState;
@@ -6,6 +6,7 @@ use records::Log;
 ghost use Rattle.decisions.specs.Outcomes.{ShowsDone};
 ghost use Rattle.log.specs.Calls.{putOf, putValueOf};
 
+// Writes a credential's counter. A total below the held one is 9; equal to the held state is 0 without a write.
 pub fn put(image: &mut [u8], log: Log, plan: Plan, credential: u8, new: CounterState) -> Done
     ensures { λ r. ⌜ ShowsDone (putOf (now (image .entry)) log plan credential new) r (now (image .exit)) ⌝ }
 {
@@ -22,6 +23,7 @@ pub fn put(image: &mut [u8], log: Log, plan: Plan, credential: u8, new: CounterS
     decisions::perform(image, log, decisions::unused(plan), n, e, d)
 }
 
+// Writes a device value. A smaller monotonic value is 9; an equal value is 0 without a write.
 pub fn put_value(image: &mut [u8], log: Log, plan: Plan, id: u8, new: u64) -> Done
     ensures { λ r. ⌜ ShowsDone (putValueOf (now (image .entry)) log plan id new) r (now (image .exit)) ⌝ }
 {

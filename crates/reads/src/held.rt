@@ -8,6 +8,7 @@ use records::State;
 ghost use mathlib.Core.Path.{_≡_};
 ghost use Rattle.reads.specs.Reads.{getOf, valueOf, anchorOf};
 
+// The counter held of a credential.
 pub fn get(log: Log, credential: u8) -> Counter
     ensures { λ r. ⌜ r ≡ getOf log credential ⌝ }
 {
@@ -41,6 +42,7 @@ pub fn get(log: Log, credential: u8) -> Counter
     }
 }
 
+// The number held of a value id.
 pub fn value(log: Log, id: u8) -> Number
     ensures { λ r. ⌜ r ≡ valueOf log id ⌝ }
 {
@@ -68,7 +70,7 @@ pub fn value(log: Log, id: u8) -> Number
     }
 }
 
-// A log that was never formatted has no anchor, and that is no refusal.
+// The anchor held. On an Unformatted log it answers "none" and no refusal.
 pub fn anchor(log: Log) -> Anchored
     ensures { λ r. ⌜ r ≡ anchorOf log ⌝ }
 {

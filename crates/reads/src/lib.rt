@@ -1,14 +1,11 @@
 // The calls that only read the log, and the tests 1, 2, 3 that every call begins with.
-// What every call tests first, and the answers of the calls that only read the log.
+// Here stand what those calls answer, and `enter`, which makes the tests.
 
-mod held; // The calls that read one record of the log
-mod status; // The calls that tell a number of the log
+mod held; // get, value, anchor: what is held of one key
+mod status; // lamport, needs_migration
 
-pub use held::anchor;
-pub use held::get;
-pub use held::value;
-pub use status::lamport;
-pub use status::needs_migration;
+pub use held::{anchor, get, value};
+pub use status::{lamport, needs_migration};
 
 // What stands here uses:
 use basics::Answer;
@@ -19,9 +16,10 @@ use records::LIMIT;
 use records::Log;
 ghost use mathlib.Core.Path.{_≡_};
 ghost use Rattle.reads.specs.Entering.{refusedEntry, entryOf};
+ghost use Rattle.reads.specs.Reads.{toldOf, toldRefused};
 
 // The most sectors that an image has: a call that takes no image tests the log against so many.
-pub const MOST: usize = 16;
+const MOST: usize = 16;
 
 // What a call finds as it begins: its refusal, or the place of its key, or the count, whether there is room for it, and the record held.
 pub struct Entry {
@@ -31,31 +29,57 @@ pub struct Entry {
     pub held: OptRaw,
 }
 
+// What is held of a credential, or why it can't be told.
 pub enum Counter {
     Refused(Answer),
     Nothing,
     Held(CounterState),
 }
 
+// What is held of a value.
 pub enum Number {
     Refused(Answer),
     Nothing,
     Held(u64),
 }
 
+// What is held as the anchor.
 pub enum Anchored {
     Refused(Answer),
     Nothing,
     Held(Anchor),
 }
 
-// An answer and a number, which is 0 beside a refusal.
+// An answer and a number: beside a refusal any value asked for is 0.
 pub struct Told {
     pub answer: Answer,
     pub value: u64,
 }
 
-fn turned(answer: Answer) -> Entry
+impl Told {
+    // Done, with this number.
+    pub fn of(value: u64) -> Told
+        ensures { λ r. ⌜ r ≡ toldOf value ⌝ }
+    {
+        Told {
+            answer: Answer::Done,
+            value: value,
+        }
+    }
+
+    // Refused, with no number.
+    pub fn refused(answer: Answer) -> Told
+        ensures { λ r. ⌜ r ≡ toldRefused answer ⌝ }
+    {
+        Told {
+            answer: answer,
+            value: 0,
+        }
+    }
+}
+
+// What a call finds that is turned away: nothing.
+fn refused_entry(answer: Answer) -> Entry
     ensures { λ r. ⌜ r ≡ refusedEntry answer ⌝ }
 {
     let z = codec::Raw::none();
@@ -75,14 +99,14 @@ pub fn enter(log: Log, sectors: usize, known: bool, tag: u8, id: u8) -> Entry
     ensures { λ r. ⌜ r ≡ entryOf sectors log known tag id ⌝ }
 {
     if sectors == 0 {
-        return turned(Answer::BadImage);
+        return refused_entry(Answer::BadImage);
     }
     let l = records::look(log, sectors, tag, id);
     if !l.fits {
-        return turned(Answer::BadLog);
+        return refused_entry(Answer::BadLog);
     }
     if !known {
-        return turned(Answer::BadId);
+        return refused_entry(Answer::BadId);
     }
     let raw = l.held;
     let held = OptRaw {

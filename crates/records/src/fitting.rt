@@ -1,5 +1,4 @@
-// What a log value must be to fit an image of so many sectors, and the tests of its state and of the places past its count.
-// The look over the whole of it stands in lookup.
+// The tests of number 2, BadLog, one by one: of the state, and of the places past the count. All of them together stand in lookup.
 use crate::LIMIT;
 use crate::State;
 use codec::Raw;
@@ -9,8 +8,8 @@ ghost use lib.ListN.{drop};
 ghost use Rattle.records.specs.Fitting.{stateFits, isZeros, allZeros};
 ghost use Rattle.records.specs.Surveys.{misfitted};
 
-// The highest number a sector can have.
-pub const SEQ_MAX: u32 = 4294967295;
+// The highest sequence number that a sector can have.
+pub const SEQ_MAX: u32 = 4_294_967_295;
 
 // What a look finds: where the log fits, the place of the key, or the count, and the record there.
 pub struct Looked {
@@ -31,6 +30,7 @@ pub fn misfit() -> Looked
     }
 }
 
+// Whether the state fits an image of so many sectors, this next_seq and this count.
 pub fn state_fits(state: State, next_seq: u32, count: usize, sectors: usize) -> bool
     ensures { λ r. ⌜ r ≡ stateFits sectors state «next_seq» count ⌝ }
 {

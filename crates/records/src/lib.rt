@@ -1,10 +1,11 @@
-// The log value and its table of records, and whether it fits an image.
-// The log value: its state, and a table of at most 32 records as places and a count. Records are found by their keys.
+// The log value: its state, next_seq, and a table of at most 32 records as places and a count; and number 2, whether it fits an image.
+// A record is found by its key, which is its tag and id.
 
-pub mod fitting; // What a log value must be to fit an image of so many sectors, and the tests of its state and of the places past its count
-mod survey; // A survey of the records of a log value
-mod lookup; // Looking a log value over once
+mod fitting; // the tests of number 2 on the state, and on the places past the count
+mod survey; // one pass over the records: whether their keys fit, and where one key stands
+mod lookup; // all of number 2, and the place of a key
 
+pub use fitting::{Looked, SEQ_MAX};
 pub use lookup::look;
 
 // What stands here uses:
@@ -20,12 +21,14 @@ ghost use Rattle.records.specs.Table.{limit, falls, keyPlace, newCount};
 // The most records that a log holds.
 pub const LIMIT: usize = 32;
 
+// What a log is: never formatted, unreadable, or in use in a sector with this seq, where head is the next slot.
 pub enum State {
     Unformatted,
     Failed,
     Active { sector: u32, seq: u32, head: u32 },
 }
 
+// The log as calls take it and hand it back. Places past the count hold zeros only.
 pub struct Log {
     pub state: State,
     pub next_seq: u32,

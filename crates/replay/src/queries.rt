@@ -29,7 +29,8 @@ fn says(answer: Answer, value: Value) -> Reply {
     }
 }
 
-fn told(t: Told) -> Reply {
+// The answer and number of a call that tells one.
+fn reply_of(t: Told) -> Reply {
     let answer = t.answer;
     says(answer, Value::One(t.value))
 }
@@ -91,10 +92,10 @@ fn read_none(line: &[u8], e: usize, log: Log) -> Reply
         return anchor(log);
     }
     if script::is_same(line, b"lamport") {
-        return told(tries::lamport(log));
+        return reply_of(reads::lamport(log));
     }
     if script::is_same(line, b"needs_migration") {
-        return told(reads::needs_migration(log));
+        return reply_of(reads::needs_migration(log));
     }
     unread()
 }
@@ -132,7 +133,7 @@ pub fn read(line: &[u8], e: usize, log: Log) -> Reply
             return unread();
         }
         let x = n.x;
-        return told(tries::load(log, x[0] as u8, x[1] == 1, x[2] as u8));
+        return reply_of(tries::load(log, x[0] as u8, x[1] == 1, x[2] as u8));
     }
     let r = read_none(line, e, log);
     if r.ok {

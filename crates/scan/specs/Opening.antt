@@ -11,6 +11,7 @@ use Rattle.records.specs.declared.State.{State}
 use Rattle.records.specs.declared.State.the-variants.{Unformatted, Failed, Active}
 use Rattle.records.specs.declared.Log.{Log}
 use Rattle.records.specs.Logs.{places, logOf}
+use Rattle.records.specs.Fitting.{seqMax}
 use Rattle.scan.specs.declared.Chosen.{Chosen}
 use Rattle.scan.specs.declared.Chosen.the-variants.{Sector, Nothing}
 use Rattle.scan.specs.declared.RegionScan.{RegionScan}
@@ -39,7 +40,7 @@ scanOf version image = regionChosen image (chosenOf version (sectorsIn (length i
 abbrev pub nextOf : State → ℕ
 nextOf Unformatted = 1
 nextOf Failed = 1
-nextOf (Active s seq head) = max 1 (min (seq + 1) 4294967295)
+nextOf (Active s seq head) = max 1 (min (seq + 1) seqMax)
 
 abbrev pub logFrom : RegionScan → Log
 logFrom r = record { state = r .state; «next_seq» = nextOf (r .state); count = r .count; table = r .table }

@@ -1,11 +1,10 @@
-// Opening an image: the sector that wins, its records and its head.
-// What opening an image gives, and its first step: the header that wins.
+// "Opening": the sector whose header wins, its records and head, and the log that they make.
+// Here stand the header that wins and next_seq.
 
-mod sector; // One pass over the slots of the sector that won
-mod opening; // Opening an image
+mod sector; // one pass over the slots of the sector that won
+mod opening; // open, and the scan of a region
 
-pub use opening::open;
-pub use opening::scan_region;
+pub use opening::{open, scan_region};
 
 // What stands here uses:
 use basics::Answer;
@@ -13,6 +12,7 @@ use codec::Header;
 use codec::Raw;
 use records::LIMIT;
 use records::Log;
+use records::SEQ_MAX;
 use records::State;
 ghost use mathlib.Core.Path.{_≡_};
 ghost use Prim.Native.Nat.{_*_, _≤_};
@@ -20,7 +20,7 @@ ghost use lib.ListN.{length};
 ghost use Rattle.scan.specs.Choosing.{better, chosenOf};
 ghost use Rattle.scan.specs.Opening.{nextOf};
 
-// The sector whose header wins.
+// The sector whose header wins, or none.
 pub enum Chosen {
     Sector { sector: usize, seq: u32 },
     Nothing,
@@ -33,11 +33,13 @@ pub struct RegionScan {
     pub table: [Raw; LIMIT],
 }
 
+// What opening answers: always with a log.
 pub struct Opened {
     pub answer: Answer,
     pub log: Log,
 }
 
+// The better of the best so far and this sector's header: the first one, or one with a higher seq.
 fn better_of(best: Chosen, sector: usize, header: Header) -> Chosen
     ensures { λ r. ⌜ r ≡ better best sector header ⌝ }
 {
@@ -65,8 +67,8 @@ fn better_of(best: Chosen, sector: usize, header: Header) -> Chosen
     }
 }
 
-// Each header is read once.
-pub fn choose(image: &[u8], sectors: usize, version: u8) -> Chosen
+// The valid header with the highest seq; among equals, the lowest sector.
+fn choose(image: &[u8], sectors: usize, version: u8) -> Chosen
     requires { ⌜ (sectors ≤ 16) × (sectors * 4096 ≤ length (now image)) ⌝ }
     ensures { λ r. ⌜ r ≡ chosenOf version sectors (now (image .entry)) ⌝ }
 {
@@ -80,7 +82,8 @@ pub fn choose(image: &[u8], sectors: usize, version: u8) -> Chosen
     best
 }
 
-pub fn next_of(state: State) -> u32
+// The larger of 1 and the winner's seq plus 1, held at the maximum; 1 where nothing won or the log is Failed.
+fn next_of(state: State) -> u32
     ensures { λ r. ⌜ r ≡ nextOf state ⌝ }
 {
     match state {
@@ -89,10 +92,10 @@ pub fn next_of(state: State) -> u32
             seq,
             head: _,
         } => {
-            if seq < 4294967295 {
+            if seq < SEQ_MAX {
                 seq + 1
             } else {
-                4294967295
+                SEQ_MAX
             }
         }
         State::Unformatted => 1,

@@ -9,7 +9,7 @@ use records::State;
 ghost use mathlib.Core.Path.{_≡_};
 ghost use Rattle.scan.specs.Opening.{scanOf, openOf};
 
-// The region of an image with headers of this version.
+// What the image holds, by its headers of this version.
 pub fn scan_region(image: &[u8], version: u8) -> RegionScan
     ensures { λ r. ⌜ r ≡ scanOf version (now (image .entry)) ⌝ }
 {
@@ -27,7 +27,7 @@ pub fn scan_region(image: &[u8], version: u8) -> RegionScan
     }
 }
 
-// Opening always gives a log; the answer is about the image's size alone.
+// Opens an image. It always gives a log; the answer is about the image's size alone.
 pub fn open(image: &[u8]) -> Opened
     ensures { λ r. ⌜ r ≡ openOf (now (image .entry)) ⌝ }
 {

@@ -5,6 +5,7 @@ use mathlib.Core.List.{List}
 use Prim.Native.Nat.{ℕ, zero, suc, _+_, _<_}
 use lib.Dec.{eqb}
 use lib.ListN.{length}
+use Rattle.records.specs.Fitting.{seqMax}
 use Rattle.basics.specs.Choice.{pick}
 use Rattle.basics.specs.Answers.{isDone}
 use Rattle.basics.specs.declared.Answer.{Answer}
@@ -36,10 +37,10 @@ committed (suc m) n avoid s t last state next f h l =
     let held : Written = record { answer = WriteError; state = state; next = next; flash = f } in
     let done : Written = record { answer = Done; state = Active s next (length t + 1); next = next + 1; flash = o .flash } in
     let P : Written → Type 0 = λ (w : Written). isDone (w .answer) ≡ true → Committed n t w in
-    by-test P (eqb s avoid) skipped (pick (eqb next 4294967295) held (pick (isDone (o .answer)) done further))
+    by-test P (eqb s avoid) skipped (pick (eqb next seqMax) held (pick (isDone (o .answer)) done further))
     (λ e. committed m n avoid (sectorAfter n s) t last state next f (after-within n s h) l)
     (λ e.
-    by-test P (eqb next 4294967295) held (pick (isDone (o .answer)) done further)
+    by-test P (eqb next seqMax) held (pick (isDone (o .answer)) done further)
     (λ e d. absurd (false≢true d))
     (λ e.
     by-test P (isDone (o .answer)) done further

@@ -5,6 +5,7 @@ use Prim.Native.Nat.{ℕ, zero, suc, _+_, _*_, _≤_}
 use native.Mathlib.Omega.{arith}
 use lib.Dec.{eqb}
 use lib.ListN.{length}
+use Rattle.records.specs.Fitting.{seqMax}
 use Rattle.basics.specs.Choice.{pick}
 use Rattle.basics.specs.Answers.{isDone}
 use Rattle.basics.specs.declared.Answer.{Answer}
@@ -94,10 +95,10 @@ commit-within (suc m) n avoid s t last state next f =
     let i = commit-within m n avoid (sectorAfter n s) t last state next f in
     let j = commit-within m n avoid (sectorAfter n s) t (o .answer) state (next + 1) (o .flash) in
     let P : Written → Type 0 = λ (r : Written). Within (suc m * one) (suc m * 4096) f (r .flash) in
-    by-test P (eqb s avoid) skipped (pick (eqb next 4294967295) held (pick (isDone (o .answer)) done further))
+    by-test P (eqb s avoid) skipped (pick (eqb next seqMax) held (pick (isDone (o .answer)) done further))
     (λ e. record { programmed = omega (arith, i .programmed); erased = omega (arith, i .erased) })
     (λ e.
-    by-test P (eqb next 4294967295) held (pick (isDone (o .answer)) done further)
+    by-test P (eqb next seqMax) held (pick (isDone (o .answer)) done further)
     (λ e. record { programmed = omega arith; erased = omega arith })
     (λ e.
     by-test P (isDone (o .answer)) done further

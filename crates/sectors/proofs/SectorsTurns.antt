@@ -8,6 +8,7 @@ use lib.ListN.{length, getD, drop, drop-of-length-le}
 use lib.Dec.{eqb}
 use lib.Seq.{drop-cons}
 use borrow.Author.Tests.{eq-eqb, ne-eqb, eqb-false}
+use Rattle.records.specs.Fitting.{seqMax}
 use Rattle.basics.specs.Choice.{pick}
 use Rattle.basics.specs.Answers.{isDone}
 use Rattle.basics.specs.declared.Answer.{Answer}
@@ -80,20 +81,20 @@ module _ (left n avoid s : ℕ) (t : List Raw) (last : Answer) (state : State) (
   commit-skip e = ap (λ (m : ℕ). commitFrom m n avoid s t last state next f) unrolled ∙ rw (eq-eqb s avoid e)
 
   module _ (apart : s ≡ avoid → ⊥) where
-    pub commit-used-up : next ≡ 4294967295 → commitFrom left n avoid s t last state next f ≡ record { answer = WriteError; state = state; next = next; flash = f }
+    pub commit-used-up : next ≡ seqMax → commitFrom left n avoid s t last state next f ≡ record { answer = WriteError; state = state; next = next; flash = f }
     unfolding commitFrom
-    commit-used-up e = ap (λ (m : ℕ). commitFrom m n avoid s t last state next f) unrolled ∙ rw (ne-eqb s avoid apart, eq-eqb next 4294967295 e)
+    commit-used-up e = ap (λ (m : ℕ). commitFrom m n avoid s t last state next f) unrolled ∙ rw (ne-eqb s avoid apart, eq-eqb next seqMax e)
 
-    module _ (fresh : next ≡ 4294967295 → ⊥) where
+    module _ (fresh : next ≡ seqMax → ⊥) where
       pub commit-done : isDone (writeSector s next t f .answer) ≡ true
           → commitFrom left n avoid s t last state next f ≡ record { answer = Done; state = Active s next (length t + 1); next = next + 1; flash = writeSector s next t f .flash }
       unfolding commitFrom
-      commit-done d = ap (λ (m : ℕ). commitFrom m n avoid s t last state next f) unrolled ∙ rw (ne-eqb s avoid apart, ne-eqb next 4294967295 fresh, d)
+      commit-done d = ap (λ (m : ℕ). commitFrom m n avoid s t last state next f) unrolled ∙ rw (ne-eqb s avoid apart, ne-eqb next seqMax fresh, d)
 
       pub commit-on : isDone (writeSector s next t f .answer) ≡ false
           → commitFrom left n avoid s t last state next f ≡ commitFrom (left - 1) n avoid (sectorAfter n s) t (writeSector s next t f .answer) state (next + 1) (writeSector s next t f .flash)
       unfolding commitFrom
-      commit-on d = ap (λ (m : ℕ). commitFrom m n avoid s t last state next f) unrolled ∙ rw (ne-eqb s avoid apart, ne-eqb next 4294967295 fresh, d)
+      commit-on d = ap (λ (m : ℕ). commitFrom m n avoid s t last state next f) unrolled ∙ rw (ne-eqb s avoid apart, ne-eqb next seqMax fresh, d)
 
 pub commit-end : (left n avoid s : ℕ) (t : List Raw) (last : Answer) (state : State) (next : ℕ) (f : Flash) → left ≡ 0
     → commitFrom left n avoid s t last state next f ≡ record { answer = last; state = state; next = next; flash = f }

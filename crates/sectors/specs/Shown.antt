@@ -1,4 +1,4 @@
--- How the answers of the steps, and the image, show what the definitions come to. `cut` is no part of what is shown.
+-- How an answer struct and the image show what a definition comes to. Whether power was cut, `cut`, can't be seen in them.
 use mathlib.Core.Path.{_≡_}
 use mathlib.Core.Bool.{Bool}
 use mathlib.Core.List.{List}
@@ -23,20 +23,10 @@ pub record ShowsStep (o : Stepped) (r : Step) (image : List ℕ) : Type 0 where
   pub shown : r ≡ record { answer = o .answer; used = usedOf (o .flash) }
   pub left : image ≡ o .flash .image
 
--- whatever was cut before
-abbrev pub Steps : (Bool → Stepped) → Step → List ℕ → Type 0
-Steps o r image = (cut : Bool) → ShowsStep (o cut) r image
-
 pub record ShowsWrote (o : Written) (r : wrote.Wrote) (image : List ℕ) : Type 0 where
   pub shown : r ≡ record { answer = o .answer; state = o .state; «next_seq» = o .next; used = usedOf (o .flash) }
   pub left : image ≡ o .flash .image
 
-abbrev pub Writes : (Bool → Written) → wrote.Wrote → List ℕ → Type 0
-Writes o r image = (cut : Bool) → ShowsWrote (o cut) r image
-
 pub record ShowsTried (o : SlotTries) (r : tried.Tried) (image : List ℕ) : Type 0 where
   pub shown : r ≡ record { full = o .full; answer = o .answer; head = o .head; used = usedOf (o .flash) }
   pub left : image ≡ o .flash .image
-
-abbrev pub Tries : (Bool → SlotTries) → tried.Tried → List ℕ → Type 0
-Tries o r image = (cut : Bool) → ShowsTried (o cut) r image

@@ -9,16 +9,17 @@ use codec::Raw;
 use records::LIMIT;
 use records::State;
 ghost use mathlib.Core.Bool.{Bool};
-ghost use Prim.Native.Nat.{_+_, _*_, _≤_, _<_};
+ghost use Prim.Native.Nat.{_≤_};
 ghost use lib.ListN.{length, take};
 ghost use Rattle.basics.specs.declared.Answer.the-variants.{WriteError};
+ghost use Rattle.sectors.specs.Asks.{HasSector, SlotsMore, CanAppend};
 ghost use Rattle.sectors.specs.Appends.{triesFrom, appendOf};
-ghost use Rattle.sectors.specs.Shown.{flashWith, Writes, Tries};
+ghost use Rattle.sectors.specs.Shown.{flashWith, ShowsWrote, ShowsTried};
 
 // Up to three tries of a slot, each in a new place; `full` where head reaches 256 first.
 fn try_slots(image: &mut [u8], sector: usize, head: u32, bytes: [u8; 16], used: Used) -> Tried
-    requires { ⌜ (head ≤ 256) × (sector * 4096 + 4096 ≤ length (now image)) × (used .programmed ≤ 256) ⌝ }
-    ensures { λ r. ⌜ (cut : Bool) → ShowsTried (triesFrom 3 sector head bytes WriteError (flashWith (now (image .entry)) used cut)) r (now (image .exit)) ⌝ }
+    requires { ⌜ (head ≤ 256) × HasSector (length (now image)) sector × SlotsMore 3 used ⌝ }
+    ensures { λ r. ⌜ ((cut : Bool) → ShowsTried (triesFrom 3 sector head bytes WriteError (flashWith (now (image .entry)) used cut)) r (now (image .exit))) ⌝ }
 {
     let mut answer = Answer::WriteError;
     let mut h = head;
@@ -55,7 +56,7 @@ fn try_slots(image: &mut [u8], sector: usize, head: u32, bytes: [u8; 16], used: 
     }
 }
 
-// Append a record in the active sector; where that is full, commit the new table to another.
+// Appends a record in the active sector; where head is 256, commits the new table to another.
 pub fn append(
     image: &mut [u8],
     sectors: usize,
@@ -68,8 +69,8 @@ pub fn append(
     count: usize,
     used: Used,
 ) -> Wrote
-    requires { ⌜ (count ≤ 32) × (sectors ≤ 16) × (sectors * 4096 ≤ length (now image)) × (sector < sectors) × (head ≤ 256) × (used .programmed ≤ 256) × (used .erased ≤ 65536) ⌝ }
-    ensures { λ r. ⌜ (cut : Bool) → ShowsWrote (appendOf sectors sector seq head «next_seq» «record» (take count table) (flashWith (now (image .entry)) used cut)) r (now (image .exit)) ⌝ }
+    requires { ⌜ CanAppend (length (now image)) sectors sector head count used ⌝ }
+    ensures { λ r. ⌜ ((cut : Bool) → ShowsWrote (appendOf sectors sector seq head «next_seq» «record» (take count table) (flashWith (now (image .entry)) used cut)) r (now (image .exit))) ⌝ }
 {
     let w = try_slots(image, sector, head, codec::encode(record, seq), used);
     let here = State::Active {
@@ -79,7 +80,7 @@ pub fn append(
     };
     let u = w.used;
     if w.full {
-        let first = commits::after(sectors, sector);
+        let first = commits::sector_after(sectors, sector);
         return commits::commit(
             image,
             sectors,

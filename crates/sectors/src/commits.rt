@@ -6,24 +6,26 @@ use crate::rewrites;
 use basics::Answer;
 use codec::Raw;
 use records::LIMIT;
+use records::SEQ_MAX;
 use records::State;
 ghost use mathlib.Core.Path.{_≡_};
 ghost use mathlib.Core.Bool.{Bool};
-ghost use Prim.Native.Nat.{_*_, _≤_, _<_};
+ghost use Prim.Native.Nat.{_<_};
 ghost use lib.ListN.{length, take};
 ghost use Rattle.basics.specs.declared.Answer.the-variants.{WriteError};
-ghost use Rattle.sectors.specs.Commits.{sectorAfter as afterSector, commitFrom};
-ghost use Rattle.sectors.specs.Shown.{flashWith, Writes};
+ghost use Rattle.sectors.specs.Asks.{CanCommit};
+ghost use Rattle.sectors.specs.Commits.{sectorAfter, commitFrom};
+ghost use Rattle.sectors.specs.Shown.{flashWith, ShowsWrote};
 
 // The sector after s, round from the last to 0.
-pub fn after(sectors: usize, s: usize) -> usize
-    requires { ⌜ s < 65536 ⌝ }
-    ensures { λ r. ⌜ r ≡ afterSector sectors s ⌝ }
+pub fn sector_after(sectors: usize, s: usize) -> usize
+    requires { ⌜ s < sectors ⌝ }
+    ensures { λ r. ⌜ r ≡ sectorAfter sectors s ⌝ }
 {
     if s + 1 == sectors { 0 } else { s + 1 }
 }
 
-// Commit a table to the first sector that takes it, from `first` on and round, `avoid` skipped.
+// Commits a table to the first sector that takes it, from `first` on and round, `avoid` skipped. Each that is tried takes next_seq and raises it.
 pub fn commit(
     image: &mut [u8],
     sectors: usize,
@@ -35,8 +37,8 @@ pub fn commit(
     count: usize,
     used: Used,
 ) -> Wrote
-    requires { ⌜ (count ≤ 32) × (sectors ≤ 16) × (sectors * 4096 ≤ length (now image)) × (first < sectors) × (used .programmed ≤ 304) × (used .erased ≤ 65536) ⌝ }
-    ensures { λ r. ⌜ (cut : Bool) → ShowsWrote (commitFrom sectors sectors avoid first (take count table) WriteError state «next_seq» (flashWith (now (image .entry)) used cut)) r (now (image .exit)) ⌝ }
+    requires { ⌜ CanCommit (length (now image)) sectors count used × (first < sectors) ⌝ }
+    ensures { λ r. ⌜ ((cut : Bool) → ShowsWrote (commitFrom sectors sectors avoid first (take count table) WriteError state «next_seq» (flashWith (now (image .entry)) used cut)) r (now (image .exit))) ⌝ }
 {
     let mut answer = Answer::WriteError;
     let mut next = next_seq;
@@ -45,12 +47,12 @@ pub fn commit(
     let mut left = sectors;
     while 0 < left {
         let here = s;
-        s = after(sectors, s);
+        s = sector_after(sectors, s);
         left -= 1;
         if here == avoid {
             continue;
         }
-        if next == 4294967295 {
+        if next == SEQ_MAX {
             return Wrote {
                 answer: Answer::WriteError,
                 state: state,

@@ -1,9 +1,9 @@
-// Writing an image: a slot, a sector, a commit, an append.
-// Writing to the flash: a slot and an erase, each with what it used of the plan.
+// "Writing": a slot and an erase, each with what it used of the plan; a sector, a commit and an append made of them.
+// Each is stated for every place where power may go, so that the theorems on a pulled stick cite these very contracts.
 
-mod rewrites; // A sector written anew
-mod commits; // A commit
-mod appends; // An append
+mod rewrites; // a sector written anew: erased, records, header last
+mod commits; // a table committed to the first sector that takes it
+mod appends; // a record appended in up to three tries, or a commit
 
 pub use appends::append;
 pub use commits::commit;
@@ -13,10 +13,11 @@ use basics::Answer;
 use flash::Plan;
 use records::State;
 ghost use mathlib.Core.Bool.{Bool};
-ghost use Prim.Native.Nat.{_+_, _*_, _≤_, _<_};
+ghost use Prim.Native.Nat.{_<_};
 ghost use lib.ListN.{length};
 ghost use Rattle.flash.specs.Run as run;
-ghost use Rattle.sectors.specs.Shown.{flashWith, Steps};
+ghost use Rattle.sectors.specs.Asks.{HasSector, SlotsMore, SectorsMore};
+ghost use Rattle.sectors.specs.Shown.{flashWith, ShowsStep};
 
 // What a call has used of its plan so far, and the bytes that it has programmed and erased.
 pub struct Used {
@@ -25,6 +26,7 @@ pub struct Used {
     pub erased: usize,
 }
 
+// What one program or erase came to.
 pub struct Step {
     pub answer: Answer,
     pub used: Used,
@@ -39,17 +41,17 @@ pub struct Wrote {
 }
 
 // What the tries of a slot came to; `full` where head reached 256 first.
-pub struct Tried {
+struct Tried {
     pub full: bool,
     pub answer: Answer,
     pub head: u32,
     pub used: Used,
 }
 
-// Program a slot.
+// Programs a slot and reads it back.
 pub fn program(image: &mut [u8], sector: usize, slot: usize, bytes: [u8; 16], used: Used) -> Step
-    requires { ⌜ (slot < 256) × (sector * 4096 + 4096 ≤ length (now image)) × (used .programmed < 65536) ⌝ }
-    ensures { λ r. ⌜ (cut : Bool) → ShowsStep (run.program sector slot bytes (flashWith (now (image .entry)) used cut)) r (now (image .exit)) ⌝ }
+    requires { ⌜ (slot < 256) × HasSector (length (now image)) sector × SlotsMore 1 used ⌝ }
+    ensures { λ r. ⌜ ((cut : Bool) → ShowsStep (run.program sector slot bytes (flashWith (now (image .entry)) used cut)) r (now (image .exit))) ⌝ }
 {
     let plan = used.plan;
     let n = flash::to_program(plan);
@@ -65,9 +67,10 @@ pub fn program(image: &mut [u8], sector: usize, slot: usize, bytes: [u8; 16], us
     }
 }
 
+// Erases a sector and checks that all of it is erased.
 pub fn erase(image: &mut [u8], sector: usize, used: Used) -> Step
-    requires { ⌜ (sector * 4096 + 4096 ≤ length (now image)) × (used .erased < 131073) ⌝ }
-    ensures { λ r. ⌜ (cut : Bool) → ShowsStep (run.erase sector (flashWith (now (image .entry)) used cut)) r (now (image .exit)) ⌝ }
+    requires { ⌜ HasSector (length (now image)) sector × SectorsMore 1 used ⌝ }
+    ensures { λ r. ⌜ ((cut : Bool) → ShowsStep (run.erase sector (flashWith (now (image .entry)) used cut)) r (now (image .exit))) ⌝ }
 {
     let plan = used.plan;
     let n = flash::to_erase(plan);

@@ -5,12 +5,14 @@ use basics::Answer;
 use codec::Raw;
 use records::LIMIT;
 ghost use mathlib.Core.Bool.{Bool};
-ghost use Prim.Native.Nat.{_+_, _*_, _≤_, _<_};
+ghost use Prim.Native.Nat.{_+_, _≤_};
 ghost use lib.ListN.{length, take};
+ghost use Rattle.records.specs.Table.{limit};
+ghost use Rattle.sectors.specs.Asks.{HasSector, SlotsMore, SectorsMore};
 ghost use Rattle.sectors.specs.Sectors.{writeRecords, writeSector};
-ghost use Rattle.sectors.specs.Shown.{flashWith, Steps};
+ghost use Rattle.sectors.specs.Shown.{flashWith, ShowsStep};
 
-// The records, in slots from 1 on.
+// Programs the records, from slot 1 on.
 fn write_records(
     image: &mut [u8],
     sector: usize,
@@ -19,8 +21,8 @@ fn write_records(
     count: usize,
     used: Used,
 ) -> Step
-    requires { ⌜ (count ≤ 32) × (sector * 4096 + 4096 ≤ length (now image)) × (used .programmed ≤ 20000) ⌝ }
-    ensures { λ r. ⌜ (cut : Bool) → ShowsStep (writeRecords sector seq 1 (take count table) (flashWith (now (image .entry)) used cut)) r (now (image .exit)) ⌝ }
+    requires { ⌜ (count ≤ limit) × HasSector (length (now image)) sector × SlotsMore count used ⌝ }
+    ensures { λ r. ⌜ ((cut : Bool) → ShowsStep (writeRecords sector seq 1 (take count table) (flashWith (now (image .entry)) used cut)) r (now (image .exit))) ⌝ }
 {
     let start = codec::under(seq);
     let mut u = used;
@@ -41,7 +43,7 @@ fn write_records(
     }
 }
 
-// A sector with these records.
+// Erases a sector, checks that all is erased, programs the records, and the header last.
 pub fn write_sector(
     image: &mut [u8],
     sector: usize,
@@ -50,8 +52,8 @@ pub fn write_sector(
     count: usize,
     used: Used,
 ) -> Step
-    requires { ⌜ (count ≤ 32) × (sector * 4096 + 4096 ≤ length (now image)) × (used .programmed ≤ 19000) × (used .erased < 131073) ⌝ }
-    ensures { λ r. ⌜ (cut : Bool) → ShowsStep (writeSector sector seq (take count table) (flashWith (now (image .entry)) used cut)) r (now (image .exit)) ⌝ }
+    requires { ⌜ (count ≤ limit) × HasSector (length (now image)) sector × SlotsMore (count + 1) used × SectorsMore 1 used ⌝ }
+    ensures { λ r. ⌜ ((cut : Bool) → ShowsStep (writeSector sector seq (take count table) (flashWith (now (image .entry)) used cut)) r (now (image .exit))) ⌝ }
 {
     let e = crate::erase(image, sector, used);
     let erased = e.answer;

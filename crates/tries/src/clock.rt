@@ -1,25 +1,16 @@
-// The Lamport clock: its number, and the step to the next,
-// past what is held and past what was seen.
+// The Lamport clock's step to its next number, past what is held and past what was seen.
 use basics::Answer;
 use codec::OptRaw;
 use decisions::Decision;
 use decisions::Done;
 use flash::Plan;
-use reads::Told;
 use records::Log;
 ghost use mathlib.Core.Path.{_≡_};
-ghost use Rattle.reads.specs.Reads.{lamportOf};
 ghost use Rattle.decisions.specs.Outcomes.{ShowsDone};
 ghost use Rattle.tries.specs.Tries.{seenOf, advanceFrom, advanceOf};
 
 // The highest number of the Lamport clock.
 const LAMPORT_MAX: u64 = 18_446_744_073_709_551_615;
-
-pub fn lamport(log: Log) -> Told
-    ensures { λ r. ⌜ r ≡ lamportOf log ⌝ }
-{
-    reads::lamport(log)
-}
 
 // The larger of the number held and the one seen.
 fn larger(held: OptRaw, seen: u64) -> u64
@@ -35,6 +26,7 @@ fn larger(held: OptRaw, seen: u64) -> u64
     seen
 }
 
+// What advance_lamport decides: 1 more than this number; 6 where there is none.
 fn advance_from(most: u64, room: bool) -> Decision
     ensures { λ r. ⌜ r ≡ advanceFrom most room ⌝ }
 {
@@ -45,7 +37,7 @@ fn advance_from(most: u64, room: bool) -> Decision
     decisions::writes(room, bodies::value_record(ids::LAMPORT, next), next)
 }
 
-// The next number of the Lamport clock, on flash before this answers.
+// The next number of the Lamport clock: the larger of held and seen, plus 1; on flash before this answers.
 pub fn advance_lamport(image: &mut [u8], log: Log, plan: Plan, seen: u64) -> Done
     ensures { λ r. ⌜ ShowsDone (advanceOf (now (image .entry)) log plan seen) r (now (image .exit)) ⌝ }
 {

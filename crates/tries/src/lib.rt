@@ -1,13 +1,11 @@
-// The applet's helpers: remaining, load, spend, set, and the Lamport clock.
-// The applet helpers that only read: tries left, and the tries that an applet starts with.
+// "Tries": the applets' helpers. What each comes to is defined in specs/Tries.antt.
+// Here stand remaining and load, which only read; `reads::lamport` is the clock's reader.
 
-pub mod spends; // The applet helpers that change a counter
-pub mod clock; // The Lamport clock
+mod spends; // spend, set
+mod clock; // advance_lamport
 
 pub use clock::advance_lamport;
-pub use clock::lamport;
-pub use spends::set;
-pub use spends::spend;
+pub use spends::{set, spend};
 
 // What stands here uses:
 use basics::Answer;
@@ -15,7 +13,6 @@ use reads::Counter;
 use reads::Told;
 use records::Log;
 ghost use mathlib.Core.Path.{_≡_};
-ghost use Rattle.reads.specs.Reads.{toldOf as toldOf};
 ghost use Rattle.tries.specs.Tries.{triesLeftOf, loadOf};
 
 // The tries left of a credential, where a record of it is held.
@@ -25,6 +22,7 @@ pub enum TriesLeft {
     Tries(u8),
 }
 
+// The tries left of a credential: its counter's, where one is held.
 pub fn remaining(log: Log, credential: u8) -> TriesLeft
     ensures { λ r. ⌜ r ≡ triesLeftOf log credential ⌝ }
 {
@@ -35,35 +33,23 @@ pub fn remaining(log: Log, credential: u8) -> TriesLeft
     }
 }
 
-fn told(value: u64) -> Told
-    ensures { λ r. ⌜ r ≡ toldOf value ⌝ }
-{
-    Told {
-        answer: Answer::Done,
-        value: value,
-    }
-}
-
-// A log that can't be read has no tries left, nor has a credential whose record exists without a counter.
+// The tries that an applet starts with. 0 where the log would answer 4 or 5; the fresh number only if nothing is held and no record exists.
 pub fn load(log: Log, credential: u8, exists: bool, fresh: u8) -> Told
     ensures { λ r. ⌜ r ≡ loadOf log credential exists fresh ⌝ }
 {
     match remaining(log, credential) {
         TriesLeft::Refused(answer) => {
             if 4 <= basics::number(answer) {
-                return told(0);
+                return Told::of(0);
             }
-            Told {
-                answer: answer,
-                value: 0,
-            }
+            Told::refused(answer)
         }
         TriesLeft::Nothing => {
             if exists {
-                return told(0);
+                return Told::of(0);
             }
-            told(fresh as u64)
+            Told::of(fresh as u64)
         }
-        TriesLeft::Tries(n) => told(n as u64),
+        TriesLeft::Tries(n) => Told::of(n as u64),
     }
 }

@@ -1,5 +1,5 @@
 // The applet helpers that change a counter: one try spent, and tries set.
-// Each decides on the counter held, or on a fresh one, and has the decision performed.
+// Each decides on the counter held, or on a fresh one.
 use basics::Answer;
 use codec::OptRaw;
 use decisions::Decision;
@@ -23,6 +23,7 @@ fn start(held: OptRaw, fresh: u8) -> CounterState
     CounterState::fresh(fresh)
 }
 
+// What spend decides on a counter: 0 tries write nothing, the highest total is 6, else one failure more.
 fn spend_from(s: CounterState, room: bool, credential: u8) -> Decision
     ensures { λ r. ⌜ r ≡ spendFrom s room credential ⌝ }
 {
@@ -40,7 +41,7 @@ fn spend_from(s: CounterState, room: bool, credential: u8) -> Decision
     }
 }
 
-// One try fewer, on flash before this answers with the tries there were; 0 where there were none, and nothing is written.
+// Spends one try: it is on flash before this answers with the tries there were. Of 0 tries nothing is written. Where no record is held it starts from `current`.
 pub fn spend(image: &mut [u8], log: Log, plan: Plan, credential: u8, current: u8) -> Done
     ensures { λ r. ⌜ ShowsDone (spendOf (now (image .entry)) log plan credential current) r (now (image .exit)) ⌝ }
 {
@@ -57,6 +58,7 @@ pub fn spend(image: &mut [u8], log: Log, plan: Plan, credential: u8, current: u8
     decisions::perform(image, log, decisions::unused(plan), n, e, d)
 }
 
+// What set decides: nothing is written where so many remain already.
 fn set_decision(held: OptRaw, room: bool, credential: u8, tries: u8) -> Decision
     ensures { λ r. ⌜ r ≡ setDecision held room credential tries ⌝ }
 {
@@ -72,7 +74,7 @@ fn set_decision(held: OptRaw, room: bool, credential: u8, tries: u8) -> Decision
     written
 }
 
-// So many tries from now on; nothing is written where there are so many already.
+// Sets the tries: at_reset becomes total and the allowance this number. Nothing is written if so many remain already.
 pub fn set(image: &mut [u8], log: Log, plan: Plan, credential: u8, tries: u8) -> Done
     ensures { λ r. ⌜ ShowsDone (setOf (now (image .entry)) log plan credential tries) r (now (image .exit)) ⌝ }
 {

@@ -10,8 +10,8 @@ use Rattle.records.specs.declared.Log.{Log}
 use Rattle.ids.proofs.Anchor as Anchor
 use Rattle.ids.proofs.Anchor.Laws as Anchor′
 use Rattle.log.specs.Calls.{putAnchorOf}
-use Rattle.log.proofs.anchors.put_anchor.Symbol as callee
-use Rattle.log.proofs.anchors.put_anchor.Met as callee-met
+use Rattle.log.proofs.put_anchor.Symbol as callee
+use Rattle.log.proofs.put_anchor.Met as callee-met
 use Rattle.host.proofs.plan_after.Symbol as reader
 use Rattle.host.proofs.plan_after.Met as reader-met
 use Rattle.host.proofs.put_anchor.Key as key
@@ -36,5 +36,5 @@ put-anchor-spec 𝓤 H 𝓜 𝓖 𝓡 =
     entered 𝓤 H (tripleOf 𝓤 H (𝓖 .A) put-anchor.signature (put-anchor.spec 𝓤 H (𝓖 .A) (𝓜 .mem) (𝓡 .run)))
     (tables 𝓤 H 𝓜 𝓡 code.env .C) (tables 𝓤 H 𝓜 𝓡 code.env .Λ) key.name code.function (code.unfolded 𝓤 H 𝓜 𝓡)
     (meets done Anchor.the-row job 𝓤 H (𝓖 .A) (givenOf 𝓤 H 𝓜 𝓖) (tablesOf 𝓤 H 𝓜 (tables 𝓤 H 𝓜 𝓡 code.env))
-    (cited 𝓤 H (Called done Rs job 𝓤 H (𝓖 .A)) 𝓜 𝓡 code.env callee.name callee.routine code.calls-log·anchors·put-anchor (callee-met.met 𝓤 H 𝓜 𝓖 𝓡))
+    (cited 𝓤 H (Called done Rs job 𝓤 H (𝓖 .A)) 𝓜 𝓡 code.env callee.name callee.routine code.calls-log·put-anchor (callee-met.met 𝓤 H 𝓜 𝓖 𝓡))
     (cited 𝓤 H (Read done 𝓤 H (𝓖 .A)) 𝓜 𝓡 code.env reader.name reader.routine code.calls-host·plan-after (reader-met.met 𝓤 H 𝓜 𝓖 𝓡)))

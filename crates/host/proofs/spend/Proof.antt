@@ -10,8 +10,8 @@ use denote.Triple.Table.{entered, cited}
 use Rattle.flash.specs.declared.Plan.{Plan}
 use Rattle.records.specs.declared.Log.{Log}
 use Rattle.tries.specs.Tries.{spendOf}
-use Rattle.tries.proofs.spends.spend.Symbol as callee
-use Rattle.tries.proofs.spends.spend.Met as callee-met
+use Rattle.tries.proofs.spend.Symbol as callee
+use Rattle.tries.proofs.spend.Met as callee-met
 use Rattle.host.proofs.plan_after.Symbol as reader
 use Rattle.host.proofs.plan_after.Met as reader-met
 use Rattle.host.proofs.spend.Key as key
@@ -36,5 +36,5 @@ spend-spec 𝓤 H 𝓜 𝓖 𝓡 =
     entered 𝓤 H (tripleOf 𝓤 H (𝓖 .A) spend.signature (spend.spec 𝓤 H (𝓖 .A) (𝓜 .mem) (𝓡 .run)))
     (tables 𝓤 H 𝓜 𝓡 code.env .C) (tables 𝓤 H 𝓜 𝓡 code.env .Λ) key.name code.function (code.unfolded 𝓤 H 𝓜 𝓡)
     (meets done u8 u8 job 𝓤 H (𝓖 .A) (givenOf 𝓤 H 𝓜 𝓖) (tablesOf 𝓤 H 𝓜 (tables 𝓤 H 𝓜 𝓡 code.env))
-    (cited 𝓤 H (Called done Rs job 𝓤 H (𝓖 .A)) 𝓜 𝓡 code.env callee.name callee.routine code.calls-tries·spends·spend (callee-met.met 𝓤 H 𝓜 𝓖 𝓡))
+    (cited 𝓤 H (Called done Rs job 𝓤 H (𝓖 .A)) 𝓜 𝓡 code.env callee.name callee.routine code.calls-tries·spend (callee-met.met 𝓤 H 𝓜 𝓖 𝓡))
     (cited 𝓤 H (Read done 𝓤 H (𝓖 .A)) 𝓜 𝓡 code.env reader.name reader.routine code.calls-host·plan-after (reader-met.met 𝓤 H 𝓜 𝓖 𝓡)))

@@ -31,35 +31,35 @@ fits-as l =
     let a = start-of l .args in
     sym (ap (λ (x : Looked). x .fits) (l .look .ensures) ∙ looked-fits (a .sectors) (a .tag) (a .id) (a .log))
 
-turned-requires : tie.Need-turned-requires
-turned-requires c κs = search needs
+refused-entry-requires : tie.Need-refused-entry-requires
+refused-entry-requires c κs = search needs
 
 returns : tie.Need-returns
 returns c =
     let a = c .before .before .args in
-    c .turned .ensures ∙ entry-by (a .sectors) (a .log) (a .known) (a .tag) (a .id) BadImage (answer-no-image (a .sectors) (a .log) (a .known) (c .before .if1 .taken))
+    c .refused-entry .ensures ∙ entry-by (a .sectors) (a .log) (a .known) (a .tag) (a .id) BadImage (answer-no-image (a .sectors) (a .log) (a .known) (c .before .if1 .taken))
 
 look-requires : tie.Need-look-requires
 look-requires c κs = search needs
 
-turned-requires-2 : tie.Need-turned-requires-2
-turned-requires-2 c κs = search needs
+refused-entry-requires-2 : tie.Need-refused-entry-requires-2
+refused-entry-requires-2 c κs = search needs
 
 returns-2 : tie.Need-returns-2
 returns-2 c =
     let l = c .before .before .before in
     let a = start-of l .args in
-    c .turned2 .ensures
+    c .refused-entry2 .ensures
     ∙ entry-by (a .sectors) (a .log) (a .known) (a .tag) (a .id) BadLog (answer-bad-log (a .sectors) (a .log) (a .known) (l .before .if1 .left) (fits-as l ∙ not-true (l .look .result .fits) (c .before .if2 .taken)))
 
-turned-requires-3 : tie.Need-turned-requires-3
-turned-requires-3 c κs = search needs
+refused-entry-requires-3 : tie.Need-refused-entry-requires-3
+refused-entry-requires-3 c κs = search needs
 
 returns-3 : tie.Need-returns-3
 returns-3 c =
     let l = c .before .before .before .before in
     let a = start-of l .args in
-    c .turned3 .ensures
+    c .refused-entry3 .ensures
     ∙ entry-by (a .sectors) (a .log) (a .known) (a .tag) (a .id) BadId
     (answer-bad-id (a .sectors) (a .log) (a .known) (l .before .if1 .left) (fits-as l ∙ not-false (l .look .result .fits) (c .before .before .if2 .left)) (not-true (a .known) (c .before .if3 .taken)))
 
@@ -85,11 +85,11 @@ pub enter-spec : {M : Type 1} → statement M
 enter-spec =
     tie.close
     (tie.spec
-    turned-requires
+    refused-entry-requires
     returns
     look-requires
-    turned-requires-2
+    refused-entry-requires-2
     returns-2
-    turned-requires-3
+    refused-entry-requires-3
     returns-3
     returns-4)

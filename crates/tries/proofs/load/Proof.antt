@@ -24,62 +24,66 @@ enum-known-answer c = search needs
 number-requires : tie.Need-number-requires
 number-requires c κs = search needs
 
-told-requires : tie.Need-told-requires
-told-requires c κs = search needs
+of-requires : tie.Need-of-requires
+of-requires c κs = search needs
 
 returns : tie.Need-returns
 returns c =
     let n = c .before .before in
     let w = n .before .before in
     let a = w .answer .given .0 .0 in
-    c .told .ensures
+    c .of .ensures
     ∙ sym (ap (λ (b : Bool). pick b (toldOf 0) (toldRefused a)) (ap (leb 4) (sym (n .number .ensures)) ∙ le-leb 4 (n .number .result) (c .before .if1 .taken)))
     ∙ by (w .before .before) _ (w .answer .given .1)
+
+refused-requires : tie.Need-refused-requires
+refused-requires c κs = search needs
 
 enum-told : tie.Need-enum-told
 enum-told c = search needs
 
-told-requires-2 : tie.Need-told-requires-2
-told-requires-2 c κs = search needs
+of-requires-2 : tie.Need-of-requires-2
+of-requires-2 c κs = search needs
 
 returns-2 : tie.Need-returns-2
 returns-2 c =
     let m = c .before .before in
     let r = m .before .before in
-    c .told2 .ensures
+    c .of2 .ensures
     ∙ sym (ap (λ (b : Bool). toldOf (pick b 0 (r .before .args .fresh))) (c .before .if2 .taken))
     ∙ by r _ (m .enum-told .given .1)
 
-told-requires-3 : tie.Need-told-requires-3
-told-requires-3 c κs = search needs
+of-requires-3 : tie.Need-of-requires-3
+of-requires-3 c κs = search needs
 
 enum-known-n : tie.Need-enum-known-n
 enum-known-n c = search needs
 
-cast-told : tie.Need-cast-told
-cast-told c = search needs
+cast-of : tie.Need-cast-of
+cast-of c = search needs
 
-told-requires-4 : tie.Need-told-requires-4
-told-requires-4 c κs = search needs
+of-requires-4 : tie.Need-of-requires-4
+of-requires-4 c κs = search needs
 
 returns-3 : tie.Need-returns-3
 returns-3 c =
-    let n = c .before in
+    let n = c .before .before in
     let w = n .before .before in
     let a = w .answer .given .0 .0 in
-    sym (ap (λ (b : Bool). pick b (toldOf 0) (toldRefused a)) (ap (leb 4) (sym (n .number .ensures)) ∙ lt-leb 4 (n .number .result) (c .if1 .left)))
+    c .refused .ensures
+    ∙ sym (ap (λ (b : Bool). pick b (toldOf 0) (toldRefused a)) (ap (leb 4) (sym (n .number .ensures)) ∙ lt-leb 4 (n .number .result) (c .before .if1 .left)))
     ∙ by (w .before .before) _ (w .answer .given .1)
 
 returns-4 : tie.Need-returns-4
 returns-4 c =
     let m = c .before .before in
     let r = m .before .before in
-    c .told3 .ensures
+    c .of3 .ensures
     ∙ sym (ap (λ (b : Bool). toldOf (pick b 0 (r .before .args .fresh))) (c .before .if2 .left))
     ∙ by r _ (m .enum-told .given .1)
 
 returns-5 : tie.Need-returns-5
-returns-5 c = let w = c .before .before in c .told4 .ensures ∙ by (w .before .before) _ (w .n .given .1)
+returns-5 c = let w = c .before .before in c .of4 .ensures ∙ by (w .before .before) _ (w .n .given .1)
 
 pub load-spec : {M : Type 1} → statement M
 load-spec =
@@ -88,15 +92,16 @@ load-spec =
     remaining-requires
     enum-known-answer
     number-requires
-    told-requires
+    of-requires
     returns
+    refused-requires
     enum-told
-    told-requires-2
+    of-requires-2
     returns-2
-    told-requires-3
+    of-requires-3
     enum-known-n
-    cast-told
-    told-requires-4
+    cast-of
+    of-requires-4
     returns-3
     returns-4
     returns-5)

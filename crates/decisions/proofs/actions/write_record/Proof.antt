@@ -61,15 +61,16 @@ append-requires c κs =
     let s = n .before .before in
     let a = s .args in
     let room = s .pre .0 in
-    let active = fits-active (a .sectors) (a .log) (room .fits) (a .sector) (a .seq) (a .head) (s .pre .1) in (
-      rw (n .new-count .ensures) (new-most (a .log .count) (a .at) (fits-clauses (a .sectors) (a .log) (room .fits) .few) (s .pre .2 .free)),
-      room .few,
-      room .sized,
-      active .within,
-      active .high,
-      room .programmed,
-      room .erased,
-    )
+    let active = fits-active (a .sectors) (a .log) (room .fits) (a .sector) (a .seq) (a .head) (s .pre .1) in
+    record {
+      few = rw (n .new-count .ensures) (new-most (a .log .count) (a .at) (fits-clauses (a .sectors) (a .log) (room .fits) .few) (s .pre .2 .free));
+      sectors = room .few;
+      sized = room .sized;
+      active = active .within;
+      high = active .high;
+      slots = room .slots;
+      erases = room .erases;
+    }
 
 finish-requires : tie.Need-finish-requires
 finish-requires c κs = search needs

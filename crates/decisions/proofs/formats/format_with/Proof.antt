@@ -1,6 +1,7 @@
 -- `decisions::formats::format_with` meets its contract.
 use mathlib.Core.Path.{sym, ap, _∙_}
 use mathlib.Core.List.{[]}
+use native.Mathlib.Omega.{arith}
 use lib.ListN.{length, take}
 use Rattle.records.specs.declared.Log.{Log}
 use Rattle.records.specs.Logs.{places}
@@ -14,7 +15,9 @@ use Rattle.decisions.proofs.formats.format_with.Statement.{statement}
 use Rattle.decisions.proofs.formats.format_with.Tie as tie
 
 commit-requires : tie.Need-commit-requires
-commit-requires c κs = search needs
+commit-requires c κs =
+    let p = c .before .before .pre in
+    (record { few = p .3 .most; sectors = p .0 .few; sized = p .0 .sized; slots = omega (arith, p .0 .slots); erases = p .0 .erases }, p .2)
 
 finish-requires : tie.Need-finish-requires
 finish-requires c κs = search needs

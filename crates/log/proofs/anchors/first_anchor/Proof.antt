@@ -43,10 +43,10 @@ module _ (w : tie.After-format-with) where
     fits : logFits (start-of .args .sectors) (w .format-with .result .log) ≡ true
     fits =
         ap (λ (r : Done). logFits (start-of .args .sectors) (r .log)) (shown true .answered)
-        ∙ format-fits (start-of .args .sectors) (start-of .args .log) (flash-of true) (start-of .pre .2) (told true true d)
+        ∙ format-fits (start-of .args .sectors) (start-of .args .log) (flash-of true) (start-of .pre .some) (told true true d)
 
     empty : (cut : Bool) → recordsOf (outcome cut .log) ≡ []
-    empty cut = format-empty (start-of .args .sectors) (start-of .args .log) (flash-of cut) (start-of .pre .2) (told cut true d)
+    empty cut = format-empty (start-of .args .sectors) (start-of .args .log) (flash-of cut) (start-of .pre .some) (told cut true d)
 
 formed : (l : tie.Else1) → isDone (l .before .before .before .before .format-with .result .answer) ≡ true
 formed l = let d = l .before in sym (d .is-done .ensures) ∙ not-false (d .is-done .result) (l .if1 .left)
@@ -86,14 +86,14 @@ perform-requires c κs =
     let s = start-of w in
     let r = w .format-with .result in
     let e = shown w true .answered in
-    let cheap = format-cheap (s .args .sectors) (s .args .log) (flash-of w true) (s .pre .0 .few) (s .pre .3) (s .pre .4) in
+    let cheap = format-cheap (s .args .sectors) (s .args .log) (flash-of w true) (s .pre .fit .few) (s .pre .programmed) (s .pre .erased) in
     record {
       room = λ _. record {
-        few = s .pre .0 .few;
-        sized = rw (w .format-with .kept .0) (s .pre .0 .sized);
+        few = s .pre .fit .few;
+        sized = rw (w .format-with .kept .0) (s .pre .fit .sized);
         fits = fits w (formed l);
-        programmed = omega (arith, cheap .0, ap (λ (x : Done). x .programmed) e);
-        erased = omega (arith, cheap .1, ap (λ (x : Done). x .erased) e);
+        slots = omega (arith, cheap .0, s .pre .fit .few, ap (λ (x : Done). x .programmed) e);
+        erases = omega (arith, cheap .1, s .pre .fit .few, ap (λ (x : Done). x .erased) e);
       };
       placed = λ _ _. record {
         place =

@@ -1,5 +1,5 @@
 -- `log::anchors::put_anchor` meets its contract.
-use mathlib.Core.Path.{_≡_, sym, ap, subst, _∙_}
+use mathlib.Core.Path.{_≡_, refl, sym, ap, subst, _∙_}
 use mathlib.Core.Bool.{Bool, true, false}
 use mathlib.Core.List.{[]}
 use Prim.Native.Nat.{ℕ, _<_}
@@ -59,7 +59,13 @@ first-anchor-requires c κs =
     let entered = entry-in n (a .log) true anchorTag 0 (e .enter .result) (is-entry e) (h .1) in
     let some : 0 < n = let z = let-in-by n (a .log) true entered .0 in omega (arith, z) in
     rw (e .before .sectors .ensures, u .unused .ensures)
-    (in-room (a .image .now) (a .log) (a .plan) true anchorTag 0 (e .enter .result) (is-entry e) (h .1), h .0, some, omega arith, omega arith, h .2)
+    (record {
+      fit = in-room (a .image .now) (a .log) (a .plan) true anchorTag 0 (e .enter .result) (is-entry e) (h .1);
+      blank = h .0;
+      some = some;
+      programmed = refl;
+      erased = refl;
+    })
 
 same-length : tie.Need-same-length
 same-length c = search needs

@@ -36,26 +36,40 @@ enter-requires c κs = search needs
 is-done-requires : tie.Need-is-done-requires
 is-done-requires c κs = search needs
 
+refused-requires : tie.Need-refused-requires
+refused-requires c κs = search needs
+
 returns : tie.Need-returns
-returns c = let d = c .before in refused d (sym (d .is-done .ensures) ∙ not-true (d .is-done .result) (c .if1 .taken))
+returns c =
+    let d = c .before .before in
+    c .refused .ensures ∙ refused d (sym (d .is-done .ensures) ∙ not-true (d .is-done .result) (c .before .if1 .taken))
 
 enum-told : tie.Need-enum-told
 enum-told c = search needs
 
+of-requires : tie.Need-of-requires
+of-requires c κs = search needs
+
 enum-told-2 : tie.Need-enum-told-2
 enum-told-2 c = search needs
+
+of-requires-2 : tie.Need-of-requires-2
+of-requires-2 c κs = search needs
 
 enum-told-3 : tie.Need-enum-told-3
 enum-told-3 c = search needs
 
+of-requires-3 : tie.Need-of-requires-3
+of-requires-3 c κs = search needs
+
 returns-2 : tie.Need-returns-2
-returns-2 c = let-in (c .before .before) _ (c .enum-told .given .1)
+returns-2 c = c .of .ensures ∙ let-in (c .before .before .before) _ (c .before .enum-told .given .1)
 
 returns-3 : tie.Need-returns-3
-returns-3 c = let-in (c .before .before) _ (c .enum-told2 .given .1)
+returns-3 c = c .of2 .ensures ∙ let-in (c .before .before .before) _ (c .before .enum-told2 .given .1)
 
 returns-4 : tie.Need-returns-4
-returns-4 c = let-in (c .before .before) _ (c .enum-told3 .given .1)
+returns-4 c = c .of3 .ensures ∙ let-in (c .before .before .before) _ (c .before .enum-told3 .given .1)
 
 pub needs-migration-spec : {M : Type 1} → statement M
 needs-migration-spec =
@@ -63,10 +77,14 @@ needs-migration-spec =
     (tie.spec
     enter-requires
     is-done-requires
+    refused-requires
     returns
     enum-told
+    of-requires
     enum-told-2
+    of-requires-2
     enum-told-3
+    of-requires-3
     returns-2
     returns-3
     returns-4)

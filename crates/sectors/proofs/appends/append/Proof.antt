@@ -2,7 +2,7 @@
 use mathlib.Core.Path.{_≡_, refl, ap}
 use mathlib.Core.Bool.{Bool, true}
 use mathlib.Core.List.{List}
-use Prim.Native.Nat.{_≤_}
+use Prim.Native.Nat.{_+_, _≤_}
 use native.Mathlib.Omega.{arith}
 use lib.ListN.{take}
 use Rattle.basics.specs.declared.Answer.the-variants.{WriteError}
@@ -37,32 +37,42 @@ shown-of t cut = record { full = t .try-slots .result .full; answer = t .try-slo
 tried-is : (t : tie.After-try-slots) (cut : Bool) → trying t cut ≡ shown-of t cut
 tried-is t cut = tries-are (trying t cut) (t .try-slots .result) (t .try-slots .last .0) (rw (t .before .encode .ensures) at (t .try-slots .ensures cut))
 
-cheap : (t : tie.After-try-slots) → (t .try-slots .result .used .programmed ≤ 304) × (t .try-slots .result .used .erased ≤ 65536)
+cheap : (t : tie.After-try-slots) → let u = start-of t .args .used in
+    (t .try-slots .result .used .programmed ≤ u .programmed + 48) × (t .try-slots .result .used .erased ≤ u .erased)
 cheap t =
     let a = start-of t .args in
     let most = tries-within 3 (a .sector) (a .head) (slotOf (a .seq) (a .«record»)) WriteError (flash-of t true) in (
-      omega (arith, most .programmed, start-of t .pre .5, ap (λ (o : SlotTries). o .flash .programmed) (tried-is t true)),
-      omega (arith, most .erased, start-of t .pre .6, ap (λ (o : SlotTries). o .flash .erased) (tried-is t true)),
+      omega (arith, most .programmed, ap (λ (o : SlotTries). o .flash .programmed) (tried-is t true)),
+      omega (arith, most .erased, ap (λ (o : SlotTries). o .flash .erased) (tried-is t true)),
     )
 
 encode-requires : tie.Need-encode-requires
 encode-requires c κs = search needs
 
 try-slots-requires : tie.Need-try-slots-requires
-try-slots-requires c κs = search needs
+try-slots-requires c κs = let p = c .before .before .before .pre in (p .high, omega (arith, p .active, p .sized), omega (arith, p .slots))
 
 cast-t19 : tie.Need-cast-t19
 cast-t19 c = search needs
 
-after-requires : tie.Need-after-requires
-after-requires c κs = search needs
+sector-after-requires : tie.Need-sector-after-requires
+sector-after-requires c κs = start-of (c .before .before .before .before) .pre .active
 
 commit-requires : tie.Need-commit-requires
 commit-requires c κs =
     let t = c .before .before .before .before .before .before in
     let a = start-of t .args in
     let p = start-of t .pre in
-    (p .0, p .1, rw (t .try-slots .kept .0) (p .2), rw (c .before .after .ensures) (after-within (a .sectors) (a .sector) (p .3)), cheap t .0, cheap t .1)
+    (
+      record {
+        few = p .few;
+        sectors = p .sectors;
+        sized = rw (t .try-slots .kept .0) (p .sized);
+        slots = omega (arith, cheap t .0, p .slots);
+        erases = omega (arith, cheap t .1, p .erases);
+      },
+      rw (c .before .sector-after .ensures) (after-within (a .sectors) (a .sector) (p .active)),
+    )
 
 same-length : tie.Need-same-length
 same-length c = search needs
@@ -73,7 +83,7 @@ returns c = λ cut.
     let t = q .before .before .before .before .before .before .before in
     let a = start-of t .args in
     rw (append-full (a .sectors) (a .sector) (a .seq) (a .head) (a .next-seq) (a .«record») (records-of t) (flash-of t cut) (shown-of t cut) (tried-is t cut) (q .before .before .before .if1 .taken))
-    (rw (q .before .before .after .ensures) at (q .commit .ensures (trying t cut .flash .cut)))
+    (rw (q .before .before .sector-after .ensures) at (q .commit .ensures (trying t cut .flash .cut)))
 
 same-length-2 : tie.Need-same-length-2
 same-length-2 c = search needs
@@ -92,7 +102,7 @@ append-spec =
     encode-requires
     try-slots-requires
     cast-t19
-    after-requires
+    sector-after-requires
     commit-requires
     same-length
     returns

@@ -8,6 +8,8 @@ use lib.ListN.{length, take}
 use lib.Seq.{length-take-le}
 use Rattle.basics.specs.Answers.{isDone}
 use Rattle.basics.specs.declared.Answer.the-variants.{Done, WriteError}
+use Rattle.records.specs.Table.{limit}
+use Rattle.records.specs.Fitting.{seqMax}
 use Rattle.records.specs.declared.State.the-variants.{Active}
 use Rattle.codec.specs.declared.Raw.{Raw}
 use Rattle.flash.specs.Run.{Flash, Stepped}
@@ -22,8 +24,8 @@ use Rattle.sectors.proofs.commits.commit.Tie as tie
 
 abbrev Inv-loop : tie.InvT-loop
 Inv-loop image₀ sectors avoid first state next-seq table count answer₀ next₀ u₀ s₀ left₀ image answer next u s left =
-    (s < sectors) × (left ≤ sectors) × (next ≤ 4294967295) × (length image ≡ length image₀)
-    × (u .programmed + 528 * left ≤ u₀ .programmed + 528 * sectors) × (u .erased + 4096 * left ≤ u₀ .erased + 4096 * sectors)
+    (s < sectors) × (left ≤ sectors) × (next ≤ seqMax) × (length image ≡ length image₀)
+    × (u .programmed + 16 * (limit + 1) * left ≤ u₀ .programmed + 16 * (limit + 1) * sectors) × (u .erased + 4096 * left ≤ u₀ .erased + 4096 * sectors)
     × ((cut : Bool) → (now : Bool) × (commitFrom left sectors avoid s (take count table) answer state next (flashWith image u now) ≡ commitFrom sectors sectors avoid first (take count table) WriteError state next-seq (flashWith image₀ u₀ cut)))
 
 abbrev μ-loop : tie.MeasureT-loop
@@ -37,7 +39,7 @@ abbrev records-of : tie.At-loop Inv-loop μ-loop → List Raw
 records-of l = take (start-of l .args .count) (start-of l .args .table)
 
 records-long : (l : tie.At-loop Inv-loop μ-loop) → length (records-of l) ≡ start-of l .args .count
-records-long l = length-take-le (start-of l .args .count) (start-of l .args .table) (omega (arith, start-of l .pre .0, start-of l .good .1 .1 .1 .1 .1 .1 .0 .1 .0 .1))
+records-long l = length-take-le (start-of l .args .count) (start-of l .args .table) (omega (arith, start-of l .pre .0 .few, start-of l .good .1 .1 .1 .1 .1 .1 .0 .1 .0 .1))
 
 abbrev flash-of : tie.At-loop Inv-loop μ-loop → Bool → Flash
 flash-of l now = flashWith (l .loop .image) (l .loop .u) now
@@ -53,19 +55,19 @@ turn-is : (w : tie.After-write-sector Inv-loop μ-loop) (now : Bool) → turn (a
 turn-is w now = step-is (turn (at-loop w) now) (w .write-sector .result) (w .write-sector .last .0) (w .write-sector .ensures now)
 
 cheap : (w : tie.After-write-sector Inv-loop μ-loop) → let l = at-loop w in
-    (w .write-sector .result .used .programmed ≤ l .loop .u .programmed + 528) × (w .write-sector .result .used .erased ≤ l .loop .u .erased + 4096)
+    (w .write-sector .result .used .programmed ≤ l .loop .u .programmed + 16 * (limit + 1)) × (w .write-sector .result .used .erased ≤ l .loop .u .erased + 4096)
 cheap w =
     let l = at-loop w in
     let most = sector-within (l .loop .s) (l .loop .next) (records-of l) (flash-of l true) in (
-      omega (arith, most .programmed, records-long l, start-of l .pre .0, ap (λ (o : Stepped). o .flash .programmed) (turn-is w true)),
+      omega (arith, most .programmed, records-long l, start-of l .pre .0 .few, ap (λ (o : Stepped). o .flash .programmed) (turn-is w true)),
       omega (arith, most .erased, ap (λ (o : Stepped). o .flash .erased) (turn-is w true)),
     )
 
 loop-holds : tie.Need-loop-holds Inv-loop μ-loop
-loop-holds c = (c .before .pre .3, omega arith, omega (arith, c .before .fits .next-seq), refl, omega arith, omega arith, λ cut. (cut, refl))
+loop-holds c = (c .before .pre .1, omega arith, omega (arith, c .before .fits .next-seq), refl, omega arith, omega arith, λ cut. (cut, refl))
 
-after-requires : tie.Need-after-requires Inv-loop μ-loop
-after-requires c κs = omega arith
+sector-after-requires : tie.Need-sector-after-requires Inv-loop μ-loop
+sector-after-requires c κs = omega arith
 
 sub-left : tie.Need-sub-left Inv-loop μ-loop
 sub-left c = omega arith
@@ -77,7 +79,7 @@ loop-again : tie.Need-loop-again Inv-loop μ-loop
 loop-again c =
     let l = c .before .before .before in
     let a = start-of l .args in (
-      rw (c .before .after .ensures) (after-within (a .sectors) (l .loop .s) (l .loop .inv .0)),
+      rw (c .before .sector-after .ensures) (after-within (a .sectors) (l .loop .s) (l .loop .inv .0)),
       omega arith,
       l .loop .inv .2,
       l .loop .inv .3,
@@ -86,7 +88,7 @@ loop-again c =
       λ cut.
           let now = l .loop .inv .6 cut .0 in (
             now,
-            ap (λ (x : ℕ). commitFrom (l .loop .left - 1) (a .sectors) (a .avoid) x (records-of l) (l .loop .answer) (a .state) (l .loop .next) (flash-of l now)) (c .before .after .ensures)
+            ap (λ (x : ℕ). commitFrom (l .loop .left - 1) (a .sectors) (a .avoid) x (records-of l) (l .loop .answer) (a .state) (l .loop .next) (flash-of l now)) (c .before .sector-after .ensures)
                 ∙ sym (commit-skip (l .loop .left) (a .sectors) (a .avoid) (l .loop .s) (records-of l) (l .loop .answer) (a .state) (l .loop .next) (flash-of l now) (c .before .before .loop-test .taken) (c .if1 .taken))
                 ∙ l .loop .inv .6 cut .1,
           ),
@@ -103,7 +105,10 @@ returns c = λ cut.
     rw (sym (l .loop .inv .6 cut .1) ∙ commit-used-up (l .loop .left) (a .sectors) (a .avoid) (l .loop .s) (records-of l) (l .loop .answer) (a .state) (l .loop .next) (flash-of l now) (c .before .before .before .loop-test .taken) (c .before .if1 .left) (c .if2 .taken)) (record { shown = refl; left = refl })
 
 write-sector-requires : tie.Need-write-sector-requires Inv-loop μ-loop
-write-sector-requires c κs = omega arith
+write-sector-requires c κs =
+    let l = c .before .before .before .before .before in
+    let p = start-of l .pre .0 in
+    (p .few, omega (arith, l .loop .inv .0, l .loop .inv .3, p .sized), omega (arith, l .loop .inv .4, p .few, p .slots), omega (arith, l .loop .inv .5, p .erases))
 
 add-next : tie.Need-add-next Inv-loop μ-loop
 add-next c = omega arith
@@ -144,7 +149,7 @@ loop-again-2 c =
     let l = at-loop w in
     let a = start-of l .args in
     let t = w .before .before .before .before in (
-      rw (t .after .ensures) (after-within (a .sectors) (l .loop .s) (l .loop .inv .0)),
+      rw (t .sector-after .ensures) (after-within (a .sectors) (l .loop .s) (l .loop .inv .0)),
       omega (arith, l .loop .inv .1),
       omega (arith, l .loop .inv .2, w .before .before .if2 .left),
       w .write-sector .kept .0 ∙ l .loop .inv .3,
@@ -154,7 +159,7 @@ loop-again-2 c =
           let now = l .loop .inv .6 cut .0 in
           let failed = ap (λ (o : Stepped). isDone (o .answer)) (turn-is w now) ∙ sym (c .before .is-done .ensures) ∙ c .if3 .left in (
             turn l now .flash .cut,
-            ap₂ (λ (x : ℕ) (o : Stepped). commitFrom (l .loop .left - 1) (a .sectors) (a .avoid) x (records-of l) (o .answer) (a .state) (l .loop .next + 1) (o .flash)) (t .after .ensures) (sym (turn-is w now))
+            ap₂ (λ (x : ℕ) (o : Stepped). commitFrom (l .loop .left - 1) (a .sectors) (a .avoid) x (records-of l) (o .answer) (a .state) (l .loop .next + 1) (o .flash)) (t .sector-after .ensures) (sym (turn-is w now))
                 ∙ sym (commit-on (l .loop .left) (a .sectors) (a .avoid) (l .loop .s) (records-of l) (l .loop .answer) (a .state) (l .loop .next) (flash-of l now) (t .before .loop-test .taken) (w .before .before .before .if1 .left) (w .before .before .if2 .left) failed)
                 ∙ l .loop .inv .6 cut .1,
           ),
@@ -177,7 +182,7 @@ commit-spec =
     Inv-loop
     μ-loop
     loop-holds
-    after-requires
+    sector-after-requires
     sub-left
     loop-less
     loop-again

@@ -57,11 +57,11 @@ erase-cheap e =
     let w = erase-within (start-of e .args .sector) (first-flash e true) .programmed in
     omega (arith, w, ap (λ (o : Stepped). o .flash .programmed) (erased-is e true))
 
-fill-cheap : (w : tie.After-write-records) → w .write-records .result .used .programmed ≤ start-of (erased-at w) .args .used .programmed + 16 * 32
+fill-cheap : (w : tie.After-write-records) → w .write-records .result .used .programmed ≤ start-of (erased-at w) .args .used .programmed + 16 * start-of (erased-at w) .args .count
 fill-cheap w =
     let e = erased-at w in
     let most = records-within (start-of e .args .sector) (start-of e .args .seq) 1 (records-of e) (wiped (start-of e .args .sector) (start-of e .args .seq) (records-of e) (first-flash e true)) .programmed in
-    let few : length (records-of e) ≤ 32 = omega (arith, length-take (start-of e .args .count) (start-of e .args .table), start-of e .pre .0) in
+    let few : length (records-of e) ≤ start-of e .args .count = omega (arith, length-take (start-of e .args .count) (start-of e .args .table)) in
     omega (arith, most, few, erase-within (start-of e .args .sector) (first-flash e true) .programmed, ap (λ (o : Stepped). o .flash .programmed) (filled-is w true))
 
 erase-requires : tie.Need-erase-requires
