@@ -53,5 +53,6 @@ unfolding leNumber
 le-append [] ys = omega arith
 le-append (x ∷ xs) ys =
     let p = 256 ^ length xs * leNumber ys in
-    let e : 256 ^ suc (length xs) * leNumber ys ≡ 256 * p = rw (pow-suc 256 (length xs), mul-comm (256 ^ length xs) 256) (mul-assoc 256 (256 ^ length xs) (leNumber ys)) in
+    let e : 256 ^ suc (length xs) * leNumber ys ≡ 256 * p =
+    rw (pow-suc 256 (length xs), mul-comm (256 ^ length xs) 256) (mul-assoc 256 (256 ^ length xs) (leNumber ys)) in
     ap (λ (q : ℕ). x + 256 * q) (le-append xs ys) ∙ omega (arith, e)

@@ -3,7 +3,8 @@ use mathlib.Core.Bool.{Bool}
 use Prim.Native.Nat.{ℕ}
 use lib.Dec.{eqb}
 use Rattle.basics.specs.declared.Answer.{Answer}
-use Rattle.basics.specs.declared.Answer.the-variants.{Done, BadImage, BadLog, BadId, NotFormatted, ReadError, WriteError, EraseError, KeystoreFull, IntegrityFailure}
+use Rattle.basics.specs.declared.Answer.the-variants.{Done, BadImage, BadLog, BadId, NotFormatted, ReadError, WriteError, EraseError}
+use Rattle.basics.specs.declared.Answer.the-variants.{KeystoreFull, IntegrityFailure}
 
 abbrev pub numberOf : Answer → ℕ
 numberOf Done = 0

@@ -4,9 +4,12 @@
 mod le_bytes; // a number as two, four or eight bytes
 mod le_numbers; // the number that bytes spell
 
-pub use le_bytes::{bytes2, bytes4, bytes8};
-pub use le_numbers::{joined, number2, number4};
-
+pub use le_bytes::bytes2;
+pub use le_bytes::bytes4;
+pub use le_bytes::bytes8;
+pub use le_numbers::joined;
+pub use le_numbers::number2;
+pub use le_numbers::number4;
 ghost use mathlib.Core.Path.{_≡_};
 ghost use Rattle.basics.specs.Answers.{numberOf, isDone};
 

@@ -30,7 +30,8 @@ six x h = omega arith
 pub anchor-read : (a : Anchor) → a .«head_seq» ≤ anchorSeqMax → anchorIn (anchorBody a) ≡ a
 unfolding leBytes
 anchor-read a h =
-    ap₂ (λ (g q : ℕ). record { «format_gen» = g; «head_seq» = q; «head_slot» = leNumber (leBytes 2 (a .«head_slot»)) }) (le-read 1 (a .«format_gen»)) (six (a .«head_seq») h)
+    ap₂ (λ (g q : ℕ). record { «format_gen» = g; «head_seq» = q; «head_slot» = leNumber (leBytes 2 (a .«head_slot»)) })
+    (le-read 1 (a .«format_gen»)) (six (a .«head_seq») h)
     ∙ ap (λ (s : ℕ). record { «format_gen» = a .«format_gen»; «head_seq» = a .«head_seq»; «head_slot» = s }) (le-read 1 (a .«head_slot»))
 
 -- an anchor has a record just where its head_seq has 48 bits

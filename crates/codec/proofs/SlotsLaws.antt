@@ -41,7 +41,8 @@ pub magic-read : (slot : List ℕ) → length slot ≡ 16
 unfolding same
 magic-read slot h =
     ap (λ (l : List ℕ). same l magic) (sym (read-part 4 0 slot (omega arith)))
-    ∙ ap (λ (t : Bool). eqb (getD slot 0 0) 0x50 && (eqb (getD slot 1 0) 0x32 && (eqb (getD slot 2 0) 0x52 && t))) (and-true (eqb (getD slot 3 0) 0x43))
+    ∙ ap (λ (t : Bool). eqb (getD slot 0 0) 0x50 && (eqb (getD slot 1 0) 0x32 && (eqb (getD slot 2 0) 0x52 && t)))
+    (and-true (eqb (getD slot 3 0) 0x43))
 
 -- the checksum from the start is the whole checksum
 pub from-start : (bytes : List ℕ) → crcFrom initial bytes ≡ crc32Of bytes

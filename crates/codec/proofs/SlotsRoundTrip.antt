@@ -20,7 +20,8 @@ use Rattle.crc.specs.Register.{crc32Of}
 use Rattle.codec.specs.declared.Raw.{Raw}
 use Rattle.codec.specs.declared.OptRaw.{OptRaw}
 use Rattle.codec.specs.declared.Header.the-variants.{Valid, Invalid}
-use Rattle.codec.specs.Slots.{sealed, crcIn, magic, magicAt, headerBytes, headerSlot, isHeader, headerOf, crcUnder, bytesOf, rawOf, slotOf, isRecordWith, some, none, decodedWith, decoded}
+use Rattle.codec.specs.Slots.{sealed, crcIn, magic, magicAt, headerBytes, headerSlot, isHeader, headerOf, crcUnder, bytesOf, rawOf}
+use Rattle.codec.specs.Slots.{slotOf, isRecordWith, some, none, decodedWith, decoded}
 
 -- ---- twelve bytes and a checksum
 module _ (check : ℕ) (bytes : List ℕ) (size : length bytes ≡ 12) where

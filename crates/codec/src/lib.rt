@@ -7,9 +7,12 @@ mod headers; // a header as a slot, both ways
 mod slots; // a record as a slot, both ways
 
 pub use checksum::under;
-pub use headers::{decode_header, encode_header};
-pub use slots::{decode, decode_from, encode, encode_from};
-
+pub use headers::decode_header;
+pub use headers::encode_header;
+pub use slots::decode;
+pub use slots::decode_from;
+pub use slots::encode;
+pub use slots::encode_from;
 ghost use mathlib.Core.Path.{_≡_};
 ghost use Rattle.basics.specs.Lists.{allAre};
 ghost use Rattle.codec.specs.Slots.{noRaw};

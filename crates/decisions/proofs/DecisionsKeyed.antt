@@ -16,7 +16,8 @@ use Rattle.bodies.specs.Bodies.{counterRecord, counterIn, valueRecord, valueIn,
 use Rattle.bodies.specs.declared.AnchorRecord.{AnchorRecord}
 use Rattle.codec.specs.Slots.{noRaw}
 use Rattle.decisions.specs.declared.Decision.{Decision}
-use Rattle.decisions.specs.Decisions.{refuse, give, write, sameCounter, putOver, putDecision, valueOver, valueDecision, sameAnchor, anchorOver, anchorWrite, anchorDecision}
+use Rattle.decisions.specs.Decisions.{refuse, give, write, sameCounter, putOver, putDecision, valueOver, valueDecision, sameAnchor}
+use Rattle.decisions.specs.Decisions.{anchorOver, anchorWrite, anchorDecision}
 
 pub record Keyed (tag id : ℕ) (room : Bool) (d : Decision) : Type 0 where
   pub roomy : d .write ≡ true → room ≡ true
@@ -26,16 +27,21 @@ pub record Keyed (tag id : ℕ) (room : Bool) (d : Decision) : Type 0 where
 module _ (tag id : ℕ) (room : Bool) where
   -- what writes nothing
   pub silent : (d : Decision) → d .write ≡ false → Keyed tag id room d
-  silent d e = let never : d .write ≡ true → ⊥ = λ h. false≢true (sym e ∙ h) in record { roomy = λ h. absurd (never h); tagged = λ h. absurd (never h); named = λ h. absurd (never h) }
+  silent d e =
+      let never : d .write ≡ true → ⊥ = λ h. false≢true (sym e ∙ h) in
+      record { roomy = λ h. absurd (never h); tagged = λ h. absurd (never h); named = λ h. absurd (never h) }
 
   -- what writes this record
   pub keyed-write : (r : Raw) (value : ℕ) → r .tag ≡ tag → r .id ≡ id → Keyed tag id room (write room r value)
-  keyed-write r value t i = by-test (Keyed tag id room) room _ (refuse KeystoreFull) (λ e. record { roomy = λ h. e; tagged = λ h. t; named = λ h. i }) (λ e. silent (refuse KeystoreFull) refl)
+  keyed-write r value t i =
+      by-test (Keyed tag id room) room _ (refuse KeystoreFull) (λ e. record { roomy = λ h. e; tagged = λ h. t; named = λ h. i })
+      (λ e. silent (refuse KeystoreFull) refl)
 
   pub keyed-pick : (b : Bool) (x y : Decision) → Keyed tag id room x → Keyed tag id room y → Keyed tag id room (pick b x y)
   keyed-pick b x y f g = by-test (Keyed tag id room) b x y (λ e. f) (λ e. g)
 
-pub put-keyed : (held : OptRaw) (room : Bool) (credential : ℕ) (new : CounterState) → Keyed counterTag credential room (putDecision held room credential new)
+pub put-keyed : (held : OptRaw) (room : Bool) (credential : ℕ) (new : CounterState)
+    → Keyed counterTag credential room (putDecision held room credential new)
 unfolding putDecision
 put-keyed held room credential new =
     let old = counterIn (held .raw .body) in
@@ -64,7 +70,9 @@ unfolding anchorWrite anchorRecord
 anchor-write-keyed room new = go (ltb anchorSeqMax (new .«head_seq»))
   where
     made : Bool → AnchorRecord
-    made b = pick b (record { answer = WriteError; raw = noRaw }) (record { answer = Done; raw = record { tag = anchorTag; id = 0; body = anchorBody new } })
+    made b =
+        pick b (record { answer = WriteError; raw = noRaw })
+        (record { answer = Done; raw = record { tag = anchorTag; id = 0; body = anchorBody new } })
 
     go : (b : Bool) → Keyed anchorTag 0 room (pick (isDone (made b .answer)) (write room (made b .raw) 0) (refuse (made b .answer)))
     go true = silent anchorTag 0 room (refuse WriteError) refl

@@ -17,7 +17,8 @@ use Rattle.decisions.specs.Performing.{appended, performed}
 use Rattle.decisions.specs.Ready.{performedOn}
 
 module _ (e : Entry) (d : Decision) (n : ℕ) (log : Log) (f : Flash) where
-  by-entry : (b : Bool) → isDone (e .answer) ≡ b → performedOn e d n log f ≡ pick b (performed (whenActive (log .state) d) n log f) (refused (e .answer) log f)
+  by-entry : (b : Bool) → isDone (e .answer) ≡ b
+      → performedOn e d n log f ≡ pick b (performed (whenActive (log .state) d) n log f) (refused (e .answer) log f)
   by-entry b h = ap (λ (x : Bool). pick x (performed (whenActive (log .state) d) n log f) (refused (e .answer) log f)) h
 
   pub on-refused : isDone (e .answer) ≡ false → performedOn e d n log f ≡ refused (e .answer) log f

@@ -36,7 +36,8 @@ module _ (seeds : List Seed) (i : ℕ) where
   seeded-end t h = rw (drop-of-length-le seeds h)
 
   pub seeded-turn : (t : List Raw) → i < length seeds
-      → seeded (drop i seeds) t ≡ seeded (drop (i + 1) seeds) (joined (counterRecord (getD seeds i noSeed .credential) (getD seeds i noSeed .state)) t)
+      → seeded (drop i seeds) t
+      ≡ seeded (drop (i + 1) seeds) (joined (counterRecord (getD seeds i noSeed .credential) (getD seeds i noSeed .state)) t)
   unfolding seeded
   seeded-turn t h = rw (add-one, drop-cons seeds i noSeed h)
 

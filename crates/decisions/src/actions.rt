@@ -32,7 +32,9 @@ fn write_record(
     value: u64,
 ) -> Done
     requires { ⌜ FitToWrite (length (now image)) sectors log used × (log .state ≡ Active sector seq head) × Placed log at rec ⌝ }
-    ensures { λ r. ⌜ ((cut : Bool) → ShowsDone (appended (Active sector seq head) sectors rec value log (flashWith (now (image .entry)) used cut)) r (now (image .exit))) ⌝ }
+    ensures { λ r. ⌜ ((cut : Bool)
+        → ShowsDone (appended (Active sector seq head) sectors rec value log (flashWith (now (image .entry)) used cut)) r
+        (now (image .exit))) ⌝ }
 {
     let count = records::new_count(log.count, at);
     let mut table = log.table;

@@ -11,9 +11,16 @@ mod outcomes; // what a call hands back
 pub use actions::perform;
 pub use anchors::anchor_decision;
 pub use formats::format_with;
-pub use outcomes::{Done, answered, unused};
-pub use puts::{put_decision, value_decision};
-pub use seeds::{SEEDS, Seed, Seeded, seed_table, seeds_known};
+pub use outcomes::Done;
+pub use outcomes::answered;
+pub use outcomes::unused;
+pub use puts::put_decision;
+pub use puts::value_decision;
+pub use seeds::SEEDS;
+pub use seeds::Seed;
+pub use seeds::Seeded;
+pub use seeds::seed_table;
+pub use seeds::seeds_known;
 
 // What stands here uses:
 use basics::Answer;

@@ -35,10 +35,12 @@ Attains image later run =
     ⊎ ((f : Flash) → (run f .flash ≡ f) × Fails (run f .answer))
 
 -- a call that is safe for the table that it attains is safe for the table after it
-pub attained : (n : ℕ) (C : List ℕ → Type 0) (P : Seen → Type 0) (later : Table) (image : List ℕ) (plan : Plan) (run : Flash → Outcome) → Attains image later run
+pub attained : (n : ℕ) (C : List ℕ → Type 0) (P : Seen → Type 0) (later : Table) (image : List ℕ) (plan : Plan) (run : Flash → Outcome)
+    → Attains image later run
     → SafeCall n C P later (run (flashOf image plan)) → SafeCall n C P (tableOf (run (flashOf image healthy) .log)) (run (flashOf image plan))
 attained n C P later image plan run (inl k) s =
-    subst (λ (z : Table). SafeCall n C P z (run (flashOf image plan))) (sym (k (flashOf image healthy) refl refl (record { endless = refl; erasing = refl; willing = refl }))) s
+    subst (λ (z : Table). SafeCall n C P z (run (flashOf image plan)))
+    (sym (k (flashOf image healthy) refl refl (record { endless = refl; erasing = refl; willing = refl }))) s
 attained n C P later image plan run (inr k) s = go s
   where
     go : SafeCall n C P later (run (flashOf image plan)) → SafeCall n C P (tableOf (run (flashOf image healthy) .log)) (run (flashOf image plan))
@@ -51,7 +53,9 @@ wrote-attains : (image : List ℕ) (state : State) (next value : ℕ) (new old :
 wrote-attains image state next value new old run (inl k) =
     inl (λ f i on h.
     let r = k f i on h in
-    ap (λ (b : Bool). tableOf (logOf (run f .state) (run f .next) (pick b new old))) (r .0) ∙ ap tableIn (seen-of (run f .state) (run f .next) new) ∙ r .1)
+    ap (λ (b : Bool). tableOf (logOf (run f .state) (run f .next) (pick b new old))) (r .0)
+    ∙ ap tableIn (seen-of (run f .state) (run f .next) new)
+    ∙ r .1)
 wrote-attains image state next value new old run (inr k) = inr (λ f. (k f .flash-is, k f .fails))
 
 module _ (image : List ℕ) (log : Log) (i : Inv image log) where
@@ -61,7 +65,8 @@ module _ (image : List ℕ) (log : Log) (i : Inv image log) where
   here : (state : State) → log .state ≡ state → Agrees n image state (log .«next_seq») (recordsOf log)
   here state e = subst (λ (z : State). Agrees n image z (log .«next_seq») (recordsOf log)) e (i .agrees)
 
-  appended-attains : (state : State) → log .state ≡ state → (r : Raw) (value : ℕ) → Writable r (recordsOf log) → Attains image (holding (joined r (recordsOf log))) (appended state n r value log)
+  appended-attains : (state : State) → log .state ≡ state → (r : Raw) (value : ℕ) → Writable r (recordsOf log)
+      → Attains image (holding (joined r (recordsOf log))) (appended state n r value log)
   appended-attains Unformatted e r value w = inr (λ f. (refl, refl))
   appended-attains Failed e r value w = inr (λ f. (refl, refl))
   appended-attains (Active s seq head) e r value w =
@@ -69,12 +74,15 @@ module _ (image : List ℕ) (log : Log) (i : Inv image log) where
       (appendOf n s seq head (log .«next_seq») r (joined r (recordsOf log)))
       (append-reaches n s seq r (recordsOf log) w (log .«next_seq») image head (here (Active s seq head) e))
 
-  pub performed-attains : (d : Decision) → (d .write ≡ true → Writable (d .rec) (recordsOf log)) → Attains image (decidedTable d log) (performed d n log)
+  pub performed-attains : (d : Decision) → (d .write ≡ true → Writable (d .rec) (recordsOf log))
+      → Attains image (decidedTable d log) (performed d n log)
   unfolding performed
   performed-attains d sound = go (d .write) refl
     where
       go : (b : Bool) → d .write ≡ b → Attains image (pick b (holding (joined (d .rec) (recordsOf log))) (tableOf log))
-          (λ (f : Flash). pick b (appended (log .state) n (d .rec) (d .value) log f) (record { answer = d .answer; value = d .value; log = log; flash = f }))
+          (λ (f : Flash).
+          pick b (appended (log .state) n (d .rec) (d .value) log f)
+          (record { answer = d .answer; value = d .value; log = log; flash = f }))
       go true e = appended-attains (log .state) refl (d .rec) (d .value) (sound e)
       go false e = inl (λ f j on h. refl)
 
@@ -83,4 +91,5 @@ module _ (image : List ℕ) (log : Log) (i : Inv image log) where
       let there = here Unformatted e in
       let bare = subst (λ (l : List Raw). Agrees n image Unformatted (log .«next_seq») l) (there .found .0) there in
       subst (λ (z : State). Attains image (holding t) (λ (f : Flash). writtenOutcome (commitFirst n t z (log .«next_seq») f) 0 t [])) (sym e)
-      (wrote-attains image Unformatted (log .«next_seq») 0 t [] (commitFirst n t Unformatted (log .«next_seq»)) (first-reaches n (log .«next_seq») t proper image bare))
+      (wrote-attains image Unformatted (log .«next_seq») 0 t [] (commitFirst n t Unformatted (log .«next_seq»))
+      (first-reaches n (log .«next_seq») t proper image bare))

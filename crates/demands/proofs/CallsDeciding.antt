@@ -74,13 +74,18 @@ anchor-whole a t = record {
   id-fits = omega arith;
   ten = anchor-ten a;
   bytes =
-      bytes-append (leBytes 2 (a .«format_gen»)) (take 6 (leBytes 8 (a .«head_seq»)) ++ leBytes 2 (a .«head_slot»)) (le-bytes 2 (a .«format_gen») (t .format-gen))
-      (bytes-append (take 6 (leBytes 8 (a .«head_seq»))) (leBytes 2 (a .«head_slot»)) (bytes-take 6 (leBytes 8 (a .«head_seq»)) (le-bytes 8 (a .«head_seq») (t .head-seq))) (le-bytes 2 (a .«head_slot») (t .head-slot)));
+      bytes-append (leBytes 2 (a .«format_gen»)) (take 6 (leBytes 8 (a .«head_seq»)) ++ leBytes 2 (a .«head_slot»))
+      (le-bytes 2 (a .«format_gen») (t .format-gen))
+      (bytes-append (take 6 (leBytes 8 (a .«head_seq»))) (leBytes 2 (a .«head_slot»))
+      (bytes-take 6 (leBytes 8 (a .«head_seq»)) (le-bytes 8 (a .«head_seq») (t .head-seq)))
+      (le-bytes 2 (a .«head_slot») (t .head-slot)));
 }
 
 pub anchor-record : (a : Anchor) → isDone (anchorRecord a .answer) ≡ true → anchorRecord a .raw ≡ anchored a
 unfolding anchorRecord
-anchor-record a = by-test (λ (m : AnchorRecord). isDone (m .answer) ≡ true → m .raw ≡ anchored a) (ltb anchorSeqMax (a .«head_seq»)) _ _ (λ _ e. absurd (false≢true e)) (λ _ e. refl)
+anchor-record a =
+    by-test (λ (m : AnchorRecord). isDone (m .answer) ≡ true → m .raw ≡ anchored a) (ltb anchorSeqMax (a .«head_seq»)) _ _
+    (λ _ e. absurd (false≢true e)) (λ _ e. refl)
 
 -- an element that is there doesn't depend on the default
 same-there : (t : List Raw) (i : ℕ) → i < length t → getD t i nowhere ≡ getD t i noRaw
@@ -105,7 +110,8 @@ decided-holds room r Q d (gives value) e = absurd (false≢true e)
 decided-holds room r Q d (writes value h q) e = q
 
 module _ (held : OptRaw) (room : Bool) where
-  pub put-decided : (credential : ℕ) (new : CounterState) → Decided room (counterRecord credential new) (Unit {0}) (putDecision held room credential new)
+  pub put-decided : (credential : ℕ) (new : CounterState)
+      → Decided room (counterRecord credential new) (Unit {0}) (putDecision held room credential new)
   unfolding putDecision
   put-decided credential new =
       by-test P (held .some) _ _
@@ -123,7 +129,8 @@ module _ (held : OptRaw) (room : Bool) where
   abbrev pub Rises : ℕ → ℕ → Type 0
   Rises id new = (isMonotonic valueTag id && ltb new (valueIn (held .raw .body))) ≡ false
 
-  pub value-decided : (id new : ℕ) → (held .some ≡ false → valueIn (held .raw .body) ≡ 0) → Decided room (valueRecord id new) (Rises id new) (valueDecision held room id new)
+  pub value-decided : (id new : ℕ) → (held .some ≡ false → valueIn (held .raw .body) ≡ 0)
+      → Decided room (valueRecord id new) (Rises id new) (valueDecision held room id new)
   unfolding valueDecision
   value-decided id new blank =
       by-test P (held .some) _ _
@@ -139,7 +146,11 @@ module _ (held : OptRaw) (room : Bool) where
   anchor-decided new =
       by-test P (held .some) _ _
       (λ _. by-test P (sameAnchor new (anchorIn (held .raw .body))) _ _ (λ _. gives 0)
-      (λ _. by-test P (eqb (new .«format_gen») (anchorIn (held .raw .body) .«format_gen») && ltb (new .«head_seq») (anchorIn (held .raw .body) .«head_seq»)) _ _ (λ _. refuses IntegrityFailure refl) (λ _. wrote)))
+      (λ _.
+      by-test P
+      (eqb (new .«format_gen») (anchorIn (held .raw .body) .«format_gen»)
+      && ltb (new .«head_seq») (anchorIn (held .raw .body) .«head_seq»))
+      _ _ (λ _. refuses IntegrityFailure refl) (λ _. wrote)))
       (λ _. wrote)
     where
       P : Decision → Type 0
@@ -148,7 +159,9 @@ module _ (held : OptRaw) (room : Bool) where
       wrote : P (pick (isDone (anchorRecord new .answer)) (write room (anchorRecord new .raw) 0) (refuse (anchorRecord new .answer)))
       wrote =
           by-test P (isDone (anchorRecord new .answer)) _ _
-          (λ e. subst (λ (r : Raw). P (write room r 0)) (sym (anchor-record new e)) (decided-write room (anchored new) (anchorRecord new .raw ≡ anchored new) 0 (anchor-record new e)))
+          (λ e.
+          subst (λ (r : Raw). P (write room r 0)) (sym (anchor-record new e))
+          (decided-write room (anchored new) (anchorRecord new .raw ≡ anchored new) 0 (anchor-record new e)))
           (λ e. refuses (anchorRecord new .answer) e)
 
 -- ---- and so may be written
@@ -157,11 +170,13 @@ held-value : (tag id : ℕ) (t : List Raw) → valueIn (getD t (placeOf tag id t
 unfolding leNumber
 held-value tag id t = go (ltb (placeOf tag id t) (length t)) refl ∙ ap (λ (o : OptRaw). valueIn (o .raw .body)) (held-at tag id t)
   where
-    go : (b : Bool) → ltb (placeOf tag id t) (length t) ≡ b → valueIn (getD t (placeOf tag id t) nowhere .body) ≡ valueIn (getD t (placeOf tag id t) noRaw .body)
+    go : (b : Bool) → ltb (placeOf tag id t) (length t) ≡ b
+        → valueIn (getD t (placeOf tag id t) nowhere .body) ≡ valueIn (getD t (placeOf tag id t) noRaw .body)
     go true e = ap (λ (r : Raw). valueIn (r .body)) (same-there t (placeOf tag id t) (ltb-true (placeOf tag id t) (length t) e))
     go false e =
         let past = ltb-false (placeOf tag id t) (length t) e in
-        ap (λ (r : Raw). valueIn (r .body)) (List·getD-eq-default t nowhere past) ∙ sym (ap (λ (r : Raw). valueIn (r .body)) (List·getD-eq-default t noRaw past))
+        ap (λ (r : Raw). valueIn (r .body)) (List·getD-eq-default t nowhere past)
+        ∙ sym (ap (λ (r : Raw). valueIn (r .body)) (List·getD-eq-default t noRaw past))
 
 -- counters and anchors don't fall
 pub steady : (r x : Raw) → isMonotonic (r .tag) (r .id) ≡ false → falls r x ≡ false
@@ -171,50 +186,68 @@ steady r x e = rw e
 -- nothing is held, and so no value
 pub held-blank : (tag id : ℕ) (t : List Raw) → heldOf tag id t .some ≡ false → valueIn (heldOf tag id t .raw .body) ≡ 0
 unfolding heldOf leNumber
-held-blank tag id t = by-test (λ (o : OptRaw). o .some ≡ false → valueIn (o .raw .body) ≡ 0) (holds tag id t) _ _ (λ _ e. absurd (false≢true (sym e))) (λ _ e. refl)
+held-blank tag id t =
+    by-test (λ (o : OptRaw). o .some ≡ false → valueIn (o .raw .body) ≡ 0) (holds tag id t) _ _ (λ _ e. absurd (false≢true (sym e)))
+    (λ _ e. refl)
 
 module _ (r : Raw) (w : Whole r) (tagged : r .tag ≡ 0xFF → ⊥) (t : List Raw) where
-  pub decided-writable : (Q : Type 0) (d : Decision) → (Q → falls r (getD t (placeOf (r .tag) (r .id) t) nowhere) ≡ false) → Decided (roomFor (r .tag) (r .id) t) r Q d → d .write ≡ true → WritesRecord d r t
+  pub decided-writable : (Q : Type 0) (d : Decision) → (Q → falls r (getD t (placeOf (r .tag) (r .id) t) nowhere) ≡ false)
+      → Decided (roomFor (r .tag) (r .id) t) r Q d → d .write ≡ true → WritesRecord d r t
   unfolding roomFor
   decided-writable Q d rises (refuses a f) e = absurd (false≢true e)
   decided-writable Q d rises (gives value) e = absurd (false≢true e)
-  decided-writable Q d rises (writes value room q) e = record { rec-is = refl; may = record { whole = w; tagged = tagged; room = room; rises = rises q } }
+  decided-writable Q d rises (writes value room q) e =
+      record { rec-is = refl; may = record { whole = w; tagged = tagged; room = room; rises = rises q } }
 
 -- what is decided on the record of a key writes this record, whatever the log holds
 abbrev pub Sound : ℕ → ℕ → (OptRaw → Bool → Decision) → (List Raw → Raw) → Type 0
-Sound tag id decision r = (t : List Raw) → AllWhole t → decision (heldOf tag id t) (roomFor tag id t) .write ≡ true → WritesRecord (decision (heldOf tag id t) (roomFor tag id t)) (r t) t
+Sound tag id decision r =
+    (t : List Raw) → AllWhole t → decision (heldOf tag id t) (roomFor tag id t) .write ≡ true
+    → WritesRecord (decision (heldOf tag id t) (roomFor tag id t)) (r t) t
 
-pub put-sound : (credential : ℕ) (new : CounterState) → credential < 256 → TypedCounter new → Sound counterTag credential (λ (held : OptRaw) (room : Bool). putDecision held room credential new) (λ t. counterRecord credential new)
+pub put-sound : (credential : ℕ) (new : CounterState) → credential < 256 → TypedCounter new
+    → Sound counterTag credential (λ (held : OptRaw) (room : Bool). putDecision held room credential new)
+    (λ t. counterRecord credential new)
 unfolding isMonotonic
 put-sound credential new h typed t _ =
-    decided-writable (counterRecord credential new) (counter-whole credential new h typed) (λ e. omega arith) t (Unit {0}) (putDecision (heldOf counterTag credential t) (roomFor counterTag credential t) credential new)
-    (λ _. steady (counterRecord credential new) (getD t (placeOf counterTag credential t) nowhere) refl) (put-decided (heldOf counterTag credential t) (roomFor counterTag credential t) credential new)
+    decided-writable (counterRecord credential new) (counter-whole credential new h typed) (λ e. omega arith) t (Unit {0})
+    (putDecision (heldOf counterTag credential t) (roomFor counterTag credential t) credential new)
+    (λ _. steady (counterRecord credential new) (getD t (placeOf counterTag credential t) nowhere) refl)
+    (put-decided (heldOf counterTag credential t) (roomFor counterTag credential t) credential new)
 
 -- a value that rises over the record held
-pub value-rises : (id new : ℕ) (t : List Raw) → Rises (heldOf valueTag id t) (roomFor valueTag id t) id new → falls (valueRecord id new) (getD t (placeOf valueTag id t) nowhere) ≡ false
+pub value-rises : (id new : ℕ) (t : List Raw) → Rises (heldOf valueTag id t) (roomFor valueTag id t) id new
+    → falls (valueRecord id new) (getD t (placeOf valueTag id t) nowhere) ≡ false
 unfolding falls
 value-rises id new t e = ap₂ (λ (x y : ℕ). isMonotonic valueTag id && ltb x y) (value-read new) (held-value valueTag id t) ∙ e
 
-pub value-sound : (id new : ℕ) → id < 256 → new < 2 ^ 64 → Sound valueTag id (λ (held : OptRaw) (room : Bool). valueDecision held room id new) (λ t. valueRecord id new)
+pub value-sound : (id new : ℕ) → id < 256 → new < 2 ^ 64
+    → Sound valueTag id (λ (held : OptRaw) (room : Bool). valueDecision held room id new) (λ t. valueRecord id new)
 value-sound id new h k t _ =
-    decided-writable (valueRecord id new) (value-whole id new h k) (λ e. omega arith) t (Rises (heldOf valueTag id t) (roomFor valueTag id t) id new) (valueDecision (heldOf valueTag id t) (roomFor valueTag id t) id new)
+    decided-writable (valueRecord id new) (value-whole id new h k) (λ e. omega arith) t
+    (Rises (heldOf valueTag id t) (roomFor valueTag id t) id new) (valueDecision (heldOf valueTag id t) (roomFor valueTag id t) id new)
     (value-rises id new t) (value-decided (heldOf valueTag id t) (roomFor valueTag id t) id new (held-blank valueTag id t))
 
-pub anchor-writes : (new : Anchor) → TypedAnchor new → (t : List Raw) → anchorDecision (heldOf anchorTag 0 t) (roomFor anchorTag 0 t) new .write ≡ true
+pub anchor-writes : (new : Anchor) → TypedAnchor new → (t : List Raw)
+    → anchorDecision (heldOf anchorTag 0 t) (roomFor anchorTag 0 t) new .write ≡ true
     → WritesRecord (anchorDecision (heldOf anchorTag 0 t) (roomFor anchorTag 0 t) new) (anchorRecord new .raw) t
 unfolding isMonotonic
 anchor-writes new typed t e =
     let d = anchorDecision (heldOf anchorTag 0 t) (roomFor anchorTag 0 t) new in
     let made = anchor-decided (heldOf anchorTag 0 t) (roomFor anchorTag 0 t) new in
-    subst (λ (r : Raw). WritesRecord d r t) (sym (decided-holds (roomFor anchorTag 0 t) (anchored new) (anchorRecord new .raw ≡ anchored new) d made e))
-    (decided-writable (anchored new) (anchor-whole new typed) (λ z. omega arith) t (anchorRecord new .raw ≡ anchored new) d (λ _. steady (anchored new) (getD t (placeOf anchorTag 0 t) nowhere) refl) made e)
+    subst (λ (r : Raw). WritesRecord d r t)
+    (sym (decided-holds (roomFor anchorTag 0 t) (anchored new) (anchorRecord new .raw ≡ anchored new) d made e))
+    (decided-writable (anchored new) (anchor-whole new typed) (λ z. omega arith) t (anchorRecord new .raw ≡ anchored new) d
+    (λ _. steady (anchored new) (getD t (placeOf anchorTag 0 t) nowhere) refl) made e)
 
-pub anchor-sound : (new : Anchor) → TypedAnchor new → Sound anchorTag 0 (λ (held : OptRaw) (room : Bool). anchorDecision held room new) (λ t. anchorRecord new .raw)
+pub anchor-sound : (new : Anchor) → TypedAnchor new
+    → Sound anchorTag 0 (λ (held : OptRaw) (room : Bool). anchorDecision held room new) (λ t. anchorRecord new .raw)
 anchor-sound new typed t _ = anchor-writes new typed t
 
 -- where nothing is held, an anchor whose head_seq has 48 bits is written
 pub anchor-first-writes : (new : Anchor) → isDone (anchorRecord new .answer) ≡ true
-    → (anchorDecision (heldOf anchorTag 0 []) (roomFor anchorTag 0 []) new .write ≡ true) × (anchorDecision (heldOf anchorTag 0 []) (roomFor anchorTag 0 []) new .rec ≡ anchorRecord new .raw)
+    → (anchorDecision (heldOf anchorTag 0 []) (roomFor anchorTag 0 []) new .write ≡ true)
+    × (anchorDecision (heldOf anchorTag 0 []) (roomFor anchorTag 0 []) new .rec ≡ anchorRecord new .raw)
 unfolding anchorDecision anchorWrite heldOf roomFor holds
 anchor-first-writes new e = rw e (refl, refl)
 

@@ -24,7 +24,8 @@ use Rattle.decisions.specs.Performing.{decided}
 use Rattle.log.specs.Calls.{putOf, putValueOf}
 use Rattle.tries.specs.Tries.{startOf, spendDecision, spendOf, setDecision, setOf, seenOf, advanceDecision, advanceOf}
 use Rattle.demands.specs.Seen.{Seen, seen}
-use Rattle.demands.specs.Calls.{Call, put, put-value, put-anchor, format, spend, set-tries, advance-lamport, outcomeOf, Typed, NoEffect, recordOf, appendsTo}
+use Rattle.demands.specs.Calls.{Call, put, put-value, put-anchor, format, spend, set-tries, advance-lamport, outcomeOf, Typed}
+use Rattle.demands.specs.Calls.{NoEffect, recordOf, appendsTo}
 use Rattle.demands.specs.Demand1.{knownIn, byState, stateAnswer}
 use Rattle.demands.specs.Figures.{decisionOf}
 use Rattle.demands.proofs.CallsDeciding.{Decided, put-decided, value-decided, held-blank, Sound, put-sound, value-sound}
@@ -74,23 +75,59 @@ pub record Decides (typed : Type 0) (tag id : ℕ) (d : OptRaw → Bool → Deci
   pub sound : typed → Sound tag id d r
 
 -- what holds of each kind holds of every call
-pub by-kind : (P : Shape → Type 0) → ((typed : Type 0) (known : Bool) (tag id : ℕ) (d : OptRaw → Bool → Decision) (r : List Raw → Raw) → Decides typed tag id d r → P (keyed typed known tag id d r))
-    → ((new : Anchor) → P (shapeOf (put-anchor new))) → ((seeds : List Seed) (count : ℕ) → P (shapeOf (format seeds count))) → (c : Call) → P (shapeOf c)
+pub by-kind : (P : Shape → Type 0)
+    → ((typed : Type 0) (known : Bool) (tag id : ℕ) (d : OptRaw → Bool → Decision) (r : List Raw → Raw) → Decides typed tag id d r
+    → P (keyed typed known tag id d r))
+    → ((new : Anchor) → P (shapeOf (put-anchor new))) → ((seeds : List Seed) (count : ℕ) → P (shapeOf (format seeds count))) → (c : Call)
+    → P (shapeOf c)
 unfolding putOf putValueOf spendOf setOf advanceOf roomFor
 by-kind P key anchor seeded (put credential new) =
-    key _ (isCredential credential) counterTag credential (λ (held : OptRaw) (room : Bool). putDecision held room credential new) (λ t. counterRecord credential new)
-    (record { Q = _; made = λ t. put-decided (heldOf counterTag credential t) (roomFor counterTag credential t) credential new; room = λ t e. e; sound = λ typed. put-sound credential new (typed .0) (typed .1) })
+    key _ (isCredential credential) counterTag credential (λ (held : OptRaw) (room : Bool). putDecision held room credential new)
+    (λ t. counterRecord credential new)
+    (record {
+      Q = _;
+      made = λ t. put-decided (heldOf counterTag credential t) (roomFor counterTag credential t) credential new;
+      room = λ t e. e;
+      sound
+          = λ typed. put-sound credential new (typed .0) (typed .1);
+    })
 by-kind P key anchor seeded (put-value id new) =
     key _ (isValue id) valueTag id (λ (held : OptRaw) (room : Bool). valueDecision held room id new) (λ t. valueRecord id new)
-    (record { Q = _; made = λ t. value-decided (heldOf valueTag id t) (roomFor valueTag id t) id new (held-blank valueTag id t); room = λ t e. e; sound = λ typed. value-sound id new (typed .0) (typed .1) })
+    (record {
+      Q = _;
+      made = λ t. value-decided (heldOf valueTag id t) (roomFor valueTag id t) id new (held-blank valueTag id t);
+      room = λ t e. e;
+      sound
+          = λ typed. value-sound id new (typed .0) (typed .1);
+    })
 by-kind P key anchor seeded (put-anchor new) = anchor new
 by-kind P key anchor seeded (format seeds count) = seeded seeds count
 by-kind P key anchor seeded (spend credential current) =
-    key _ (isCredential credential) counterTag credential (λ (held : OptRaw) (room : Bool). spendDecision held room credential current) (λ t. counterRecord credential (oneMore (startOf (heldOf counterTag credential t) current)))
-    (record { Q = _; made = λ t. spend-decided (roomFor counterTag credential t) credential (startOf (heldOf counterTag credential t) current); room = λ t e. e; sound = λ typed. spend-sound credential current (typed .0) (typed .1) })
+    key _ (isCredential credential) counterTag credential (λ (held : OptRaw) (room : Bool). spendDecision held room credential current)
+    (λ t. counterRecord credential (oneMore (startOf (heldOf counterTag credential t) current)))
+    (record {
+      Q = _;
+      made = λ t. spend-decided (roomFor counterTag credential t) credential (startOf (heldOf counterTag credential t) current);
+      room =
+          λ t e. e;
+      sound = λ typed. spend-sound credential current (typed .0) (typed .1);
+    })
 by-kind P key anchor seeded (set-tries credential tries) =
-    key _ (isCredential credential) counterTag credential (λ (held : OptRaw) (room : Bool). setDecision held room credential tries) (λ t. counterRecord credential (resetOf (startOf (heldOf counterTag credential t) tries) tries))
-    (record { Q = _; made = λ t. set-decided (heldOf counterTag credential t) (roomFor counterTag credential t) credential tries; room = λ t e. e; sound = λ typed. set-sound credential tries (typed .0) (typed .1) })
+    key _ (isCredential credential) counterTag credential (λ (held : OptRaw) (room : Bool). setDecision held room credential tries)
+    (λ t. counterRecord credential (resetOf (startOf (heldOf counterTag credential t) tries) tries))
+    (record {
+      Q = _;
+      made = λ t. set-decided (heldOf counterTag credential t) (roomFor counterTag credential t) credential tries;
+      room = λ t e. e;
+      sound = λ typed. set-sound credential tries (typed .0) (typed .1);
+    })
 by-kind P key anchor seeded (advance-lamport latest) =
-    key _ true valueTag lamport (λ (held : OptRaw) (room : Bool). advanceDecision held room latest) (λ t. valueRecord lamport (seenOf (heldOf valueTag lamport t) latest + 1))
-    (record { Q = _; made = λ t. advance-decided (heldOf valueTag lamport t) (roomFor valueTag lamport t) latest; room = λ t e. e; sound = λ typed. advance-sound latest typed })
+    key _ true valueTag lamport (λ (held : OptRaw) (room : Bool). advanceDecision held room latest)
+    (λ t. valueRecord lamport (seenOf (heldOf valueTag lamport t) latest + 1))
+    (record {
+      Q = _;
+      made = λ t. advance-decided (heldOf valueTag lamport t) (roomFor valueTag lamport t) latest;
+      room = λ t e. e;
+      sound = λ typed.
+          advance-sound latest typed;
+    })

@@ -34,7 +34,8 @@ use Rattle.tries.specs.Tries.{startOf, spentBy, spendFrom, spendDecision, setDe
 use Rattle.basics.specs.declared.Answer.the-variants.{WriteError}
 use Rattle.demands.specs.Typed.{TypedCounter}
 use Rattle.demands.proofs.SafePerforming.{WritesRecord}
-use Rattle.demands.proofs.CallsDeciding.{counter-whole, value-whole, Decided, refuses, gives, decided-write, decided-holds, steady, held-blank, decided-writable, Sound, value-rises}
+use Rattle.demands.proofs.CallsDeciding.{counter-whole, value-whole, Decided, refuses, gives, decided-write, decided-holds, steady}
+use Rattle.demands.proofs.CallsDeciding.{held-blank, decided-writable, Sound, value-rises}
 
 -- ---- the record held is of bytes
 none-whole : Whole noRaw
@@ -54,7 +55,8 @@ module _ (r : Raw) (w : Whole r) where
   part-fits : (i n : ℕ) → i + n ≤ 10 → leNumber (part i n (r .body)) < 256 ^ n
   part-fits i n h =
       let long : length (part i n (r .body)) ≡ n = length-take-le n (drop i (r .body)) (simp length-drop (omega (arith, w .ten))) in
-      subst (λ (m : ℕ). leNumber (part i n (r .body)) < 256 ^ m) long (le-fits (part i n (r .body)) (bytes-take n (drop i (r .body)) (bytes-drop i (r .body) (w .bytes))))
+      subst (λ (m : ℕ). leNumber (part i n (r .body)) < 256 ^ m) long
+      (le-fits (part i n (r .body)) (bytes-take n (drop i (r .body)) (bytes-drop i (r .body) (w .bytes))))
 
   first-byte : (bs : List ℕ) → T (areBytes bs) → getD bs 0 0 < 256
   first-byte [] t = omega arith
@@ -67,7 +69,8 @@ module _ (r : Raw) (w : Whole r) where
   value-fits = part-fits 2 8 (omega arith)
 
 -- ---- spend and set: a total below the highest has one more
-pub spend-decided : (room : Bool) (credential : ℕ) (s : CounterState) → Decided room (counterRecord credential (oneMore s)) (s .total ≡ totalMax → ⊥) (spendFrom s room credential)
+pub spend-decided : (room : Bool) (credential : ℕ) (s : CounterState)
+    → Decided room (counterRecord credential (oneMore s)) (s .total ≡ totalMax → ⊥) (spendFrom s room credential)
 unfolding spendFrom failedOf
 spend-decided room credential s =
     by-test P (eqb (remainingOf s) 0) _ _ (λ _. gives 0)
@@ -77,11 +80,13 @@ spend-decided room credential s =
     P : Decision → Type 0
     P = Decided room (counterRecord credential (oneMore s)) (s .total ≡ totalMax → ⊥)
 
-pub set-decided : (held : OptRaw) (room : Bool) (credential tries : ℕ) → Decided room (counterRecord credential (resetOf (startOf held tries) tries)) (Unit {0}) (setDecision held room credential tries)
+pub set-decided : (held : OptRaw) (room : Bool) (credential tries : ℕ)
+    → Decided room (counterRecord credential (resetOf (startOf held tries) tries)) (Unit {0}) (setDecision held room credential tries)
 unfolding setDecision
 set-decided held room credential tries =
     let r = counterRecord credential (resetOf (startOf held tries) tries) in
-    by-test (Decided room r (Unit {0})) (held .some && eqb (remainingOf (startOf held tries)) tries) _ _ (λ _. gives 0) (λ _. decided-write room r (Unit {0}) 0 tt)
+    by-test (Decided room r (Unit {0})) (held .some && eqb (remainingOf (startOf held tries)) tries) _ _ (λ _. gives 0)
+    (λ _. decided-write room r (Unit {0}) 0 tt)
 
 module _ (t : List Raw) (w : AllWhole t) (credential : ℕ) (fits : credential < 256) where
   abbrev held : OptRaw
@@ -93,17 +98,20 @@ module _ (t : List Raw) (w : AllWhole t) (credential : ℕ) (fits : credential <
   start-typed : (fresh : ℕ) → fresh < 256 → TypedCounter (startOf held fresh)
   unfolding startOf
   start-typed fresh h =
-      by-test TypedCounter (held .some) (counterIn (held .raw .body)) (freshOf fresh) (λ _. counter-typed (held .raw) (held-whole counterTag credential t w))
+      by-test TypedCounter (held .some) (counterIn (held .raw .body)) (freshOf fresh)
+      (λ _. counter-typed (held .raw) (held-whole counterTag credential t w))
       (λ _. record { total = omega arith; at-reset = omega arith; allowance = h })
 
   abbrev CounterWrites : CounterState → Decision → Type 0
   CounterWrites s d = d .write ≡ true → WritesRecord d (counterRecord credential s) t
 
   -- what is written of a counter
-  counter-writes : (s : CounterState) (Q : Type 0) (d : Decision) → (Q → TypedCounter s) → Decided room (counterRecord credential s) Q d → CounterWrites s d
+  counter-writes : (s : CounterState) (Q : Type 0) (d : Decision) → (Q → TypedCounter s) → Decided room (counterRecord credential s) Q d
+      → CounterWrites s d
   unfolding isMonotonic
   counter-writes s Q d typed made e =
-      decided-writable (counterRecord credential s) (counter-whole credential s fits (typed (decided-holds room (counterRecord credential s) Q d made e))) (λ z. omega arith) t Q d
+      decided-writable (counterRecord credential s)
+      (counter-whole credential s fits (typed (decided-holds room (counterRecord credential s) Q d made e))) (λ z. omega arith) t Q d
       (λ _. steady (counterRecord credential s) (getD t (placeOf counterTag credential t) nowhere) refl) made e
 
   pub spend-writes : (current : ℕ) → current < 256 → CounterWrites (oneMore (startOf held current)) (spendDecision held room credential current)
@@ -111,19 +119,23 @@ module _ (t : List Raw) (w : AllWhole t) (credential : ℕ) (fits : credential <
       let s = startOf held current in
       let typed = start-typed current h in
       counter-writes (oneMore s) (s .total ≡ totalMax → ⊥) (spendDecision held room credential current)
-      (λ most. record { total = omega (arith, typed .total); at-reset = typed .at-reset; allowance = typed .allowance }) (spend-decided room credential s)
+      (λ most. record { total = omega (arith, typed .total); at-reset = typed .at-reset; allowance = typed .allowance })
+      (spend-decided room credential s)
 
   pub set-writes : (tries : ℕ) → tries < 256 → CounterWrites (resetOf (startOf held tries) tries) (setDecision held room credential tries)
   set-writes tries h =
       let typed = start-typed tries h in
-      counter-writes (resetOf (startOf held tries) tries) (Unit {0}) (setDecision held room credential tries) (λ _. record { total = typed .total; at-reset = typed .total; allowance = h }) (set-decided held room credential tries)
+      counter-writes (resetOf (startOf held tries) tries) (Unit {0}) (setDecision held room credential tries)
+      (λ _. record { total = typed .total; at-reset = typed .total; allowance = h }) (set-decided held room credential tries)
 
 pub spend-sound : (credential current : ℕ) → credential < 256 → current < 256
-    → Sound counterTag credential (λ (held : OptRaw) (room : Bool). spendDecision held room credential current) (λ t. counterRecord credential (oneMore (startOf (heldOf counterTag credential t) current)))
+    → Sound counterTag credential (λ (held : OptRaw) (room : Bool). spendDecision held room credential current)
+    (λ t. counterRecord credential (oneMore (startOf (heldOf counterTag credential t) current)))
 spend-sound credential current fits h t w = spend-writes t w credential fits current h
 
 pub set-sound : (credential tries : ℕ) → credential < 256 → tries < 256
-    → Sound counterTag credential (λ (held : OptRaw) (room : Bool). setDecision held room credential tries) (λ t. counterRecord credential (resetOf (startOf (heldOf counterTag credential t) tries) tries))
+    → Sound counterTag credential (λ (held : OptRaw) (room : Bool). setDecision held room credential tries)
+    (λ t. counterRecord credential (resetOf (startOf (heldOf counterTag credential t) tries) tries))
 set-sound credential tries fits h t w = set-writes t w credential fits tries h
 
 -- ---- advance_lamport: above the value held
@@ -135,7 +147,9 @@ module _ (held : OptRaw) (room : Bool) (seen : ℕ) where
   most-fits h k = by-test (λ (m : ℕ). m < 2 ^ 64) (held .some) (max (valueIn (held .raw .body)) seen) seen (λ _. omega arith) (λ _. k)
 
   most-above : (held .some ≡ false → valueIn (held .raw .body) ≡ 0) → valueIn (held .raw .body) ≤ most + 1
-  most-above blank = by-test (λ (m : ℕ). valueIn (held .raw .body) ≤ m + 1) (held .some) (max (valueIn (held .raw .body)) seen) seen (λ _. omega arith) (λ e. omega (arith, blank e))
+  most-above blank =
+      by-test (λ (m : ℕ). valueIn (held .raw .body) ≤ m + 1) (held .some) (max (valueIn (held .raw .body)) seen) seen (λ _. omega arith)
+      (λ e. omega (arith, blank e))
 
   pub advance-decided : Decided room (valueRecord lamport (most + 1)) (most ≡ lamportMax → ⊥) (advanceFrom most room)
   unfolding advanceFrom
@@ -144,14 +158,22 @@ module _ (held : OptRaw) (room : Bool) (seen : ℕ) where
       (λ e. decided-write room (valueRecord lamport (most + 1)) (most ≡ lamportMax → ⊥) (most + 1) (eqb-false most lamportMax e))
 
 pub advance-sound : (seen : ℕ) → seen < 2 ^ 64
-    → Sound valueTag lamport (λ (held : OptRaw) (room : Bool). advanceDecision held room seen) (λ t. valueRecord lamport (seenOf (heldOf valueTag lamport t) seen + 1))
+    → Sound valueTag lamport (λ (held : OptRaw) (room : Bool). advanceDecision held room seen)
+    (λ t. valueRecord lamport (seenOf (heldOf valueTag lamport t) seen + 1))
 advance-sound seen h t w e =
     let held = heldOf valueTag lamport t in
     let room = roomFor valueTag lamport t in
     let made = advance-decided held room seen in
     let new = seenOf held seen + 1 in
-    let unlike = decided-holds room (valueRecord lamport (seenOf held seen + 1)) (seenOf held seen ≡ lamportMax → ⊥) (advanceDecision held room seen) made e in
+    let unlike =
+    decided-holds room (valueRecord lamport (seenOf held seen + 1)) (seenOf held seen ≡ lamportMax → ⊥) (advanceDecision held room seen)
+    made e in
     let fits = most-fits held room seen (value-fits (held .raw) (held-whole valueTag lamport t w)) h in
     let above = most-above held room seen (held-blank valueTag lamport t) in
-    decided-writable (valueRecord lamport new) (value-whole lamport new (omega arith) (omega arith)) (λ z. omega arith) t (seenOf held seen ≡ lamportMax → ⊥) (advanceDecision held room seen)
-    (λ _. value-rises lamport new t (ap (λ (b : Bool). isMonotonic valueTag lamport && b) (le-ltb new (valueIn (held .raw .body)) above) ∙ and-false (isMonotonic valueTag lamport))) made e
+    decided-writable (valueRecord lamport new) (value-whole lamport new (omega arith) (omega arith)) (λ z. omega arith) t
+    (seenOf held seen ≡ lamportMax → ⊥) (advanceDecision held room seen)
+    (λ _.
+    value-rises lamport new t
+    (ap (λ (b : Bool). isMonotonic valueTag lamport && b) (le-ltb new (valueIn (held .raw .body)) above)
+    ∙ and-false (isMonotonic valueTag lamport)))
+    made e

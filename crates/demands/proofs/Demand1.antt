@@ -17,7 +17,8 @@ use Rattle.codec.specs.Slots.{slotOf, headerSlot}
 use Rattle.flash.specs.declared.Plan.{Plan}
 use Rattle.flash.specs.Image.{sectorsIn}
 use Rattle.flash.specs.Run.{Flash, Stepped, program, erase}
-use Rattle.flash.proofs.RunLaws.{Programmed, program-refused, program-stopped, program-whole, program-outcome, Erased, erase-refused, erase-stopped, erase-whole, erase-outcome}
+use Rattle.flash.proofs.RunLaws.{Programmed, program-refused, program-stopped, program-whole, program-outcome, Erased, erase-refused}
+use Rattle.flash.proofs.RunLaws.{erase-stopped, erase-whole, erase-outcome}
 use Rattle.records.specs.declared.State.{State}
 use Rattle.records.specs.declared.State.the-variants.{Unformatted, Active, Failed}
 use Rattle.records.specs.declared.Log.{Log}
@@ -44,7 +45,9 @@ use Rattle.decisions.specs.Performing.{performed, decided, formatted}
 use Rattle.log.specs.Calls.{isFirst, anchoredFirst, anchored as anchoredOn, formatOn, putAnchorOf, formatOf}
 use Rattle.tries.specs.Tries.{triesLeftBy, loadBy}
 use Rattle.demands.specs.Calls.{Call, outcomeOf}
-use Rattle.demands.specs.Demand1.{leavesAll, knownIn, byState, stateAnswer, Refuses, Asked, get, get-value, remaining, anchor, lamport, needs-migration, load, replyOf, turnedAway, knownTo, stateReply, RefusesAsked, RefusesImage}
+use Rattle.demands.specs.Demand1.{leavesAll, knownIn, byState, stateAnswer, Refuses, Asked, get, get-value, remaining, anchor}
+use Rattle.demands.specs.Demand1.{lamport, needs-migration, load, replyOf, turnedAway, knownTo, stateReply, RefusesAsked}
+use Rattle.demands.specs.Demand1.{RefusesImage}
 use Rattle.demands.proofs.CallsCourses.{Course, refusal, given, appends, formats, anchors, call-course}
 use Rattle.demands.proofs.CallsShapes.{Shape, by-kind}
 
@@ -72,25 +75,32 @@ records-answers : (s seq k : ℕ) (t : List Raw) (f : Flash) → FromFlash (writ
 unfolding writeRecords
 records-answers s seq k [] f = refl
 records-answers s seq k (r ∷ t) f =
-    by-test (λ (o : Stepped). FromFlash (o .answer)) (isDone (program s k (slotOf seq r) f .answer)) _ _ (λ _. records-answers s seq (suc k) t (program s k (slotOf seq r) f .flash)) (λ _. program-answers s k (slotOf seq r) f)
+    by-test (λ (o : Stepped). FromFlash (o .answer)) (isDone (program s k (slotOf seq r) f .answer)) _ _
+    (λ _. records-answers s seq (suc k) t (program s k (slotOf seq r) f .flash)) (λ _. program-answers s k (slotOf seq r) f)
 
-done-answers : (o : Stepped) (next : Flash → Stepped) → FromFlash (o .answer) → ((g : Flash) → FromFlash (next g .answer)) → FromFlash (onDone o next .answer)
+done-answers : (o : Stepped) (next : Flash → Stepped) → FromFlash (o .answer) → ((g : Flash) → FromFlash (next g .answer))
+    → FromFlash (onDone o next .answer)
 done-answers o next a b = by-test (λ (x : Stepped). FromFlash (x .answer)) (isDone (o .answer)) (next (o .flash)) o (λ _. b (o .flash)) (λ _. a)
 
 sector-answers : (s seq : ℕ) (t : List Raw) (f : Flash) → FromFlash (writeSector s seq t f .answer)
 unfolding writeSector
 sector-answers s seq t f =
     done-answers (erase s f) (λ (g : Flash). onDone (writeRecords s seq 1 t g) (λ (h : Flash). program s 0 (headerSlot seq) h)) (erase-answers s f)
-    (λ g. done-answers (writeRecords s seq 1 t g) (λ (h : Flash). program s 0 (headerSlot seq) h) (records-answers s seq 1 t g) (λ h. program-answers s 0 (headerSlot seq) h))
+    (λ g.
+    done-answers (writeRecords s seq 1 t g) (λ (h : Flash). program s 0 (headerSlot seq) h) (records-answers s seq 1 t g)
+    (λ h. program-answers s 0 (headerSlot seq) h))
 
-commit-answers : (m n a s : ℕ) (t : List Raw) (last : Answer) (state : State) (next : ℕ) (f : Flash) → FromFlash last → FromFlash (commitFrom m n a s t last state next f .answer)
+commit-answers : (m n a s : ℕ) (t : List Raw) (last : Answer) (state : State) (next : ℕ) (f : Flash) → FromFlash last
+    → FromFlash (commitFrom m n a s t last state next f .answer)
 unfolding commitFrom
 commit-answers zero n a s t last state next f h = h
 commit-answers (suc m) n a s t last state next f h =
     by-test (λ (w : Written). FromFlash (w .answer)) (eqb s a) _ _ (λ _. commit-answers m n a (sectorAfter n s) t last state next f h)
     (λ _. by-test (λ (w : Written). FromFlash (w .answer)) (eqb next seqMax) _ _ (λ _. refl)
     (λ _. by-test (λ (w : Written). FromFlash (w .answer)) (isDone (writeSector s next t f .answer)) _ _ (λ _. refl)
-    (λ _. commit-answers m n a (sectorAfter n s) t (writeSector s next t f .answer) state (next + 1) (writeSector s next t f .flash) (sector-answers s next t f))))
+    (λ _.
+    commit-answers m n a (sectorAfter n s) t (writeSector s next t f .answer) state (next + 1) (writeSector s next t f .flash)
+    (sector-answers s next t f))))
 
 tries-answers : (m s head : ℕ) (bytes : List ℕ) (last : Answer) (f : Flash) → FromFlash last → FromFlash (triesFrom m s head bytes last f .answer)
 unfolding triesFrom
@@ -104,7 +114,9 @@ append-answers : (n s seq head next : ℕ) (r : Raw) (t : List Raw) (f : Flash) 
 unfolding appendOf
 append-answers n s seq head next r t f =
     by-test (λ (w : Written). FromFlash (w .answer)) (triesFrom 3 s head (slotOf seq r) WriteError f .full) _ _
-    (λ _. commit-answers n n s (sectorAfter n s) t WriteError (Active s seq (triesFrom 3 s head (slotOf seq r) WriteError f .head)) next (triesFrom 3 s head (slotOf seq r) WriteError f .flash) refl)
+    (λ _.
+    commit-answers n n s (sectorAfter n s) t WriteError (Active s seq (triesFrom 3 s head (slotOf seq r) WriteError f .head)) next
+    (triesFrom 3 s head (slotOf seq r) WriteError f .flash) refl)
     (λ _. tries-answers 3 s head (slotOf seq r) WriteError f refl)
 
 -- ---- the calls that can write
@@ -119,18 +131,22 @@ module _ (image : List ℕ) (log : Log) (plan : Plan) where
   course-unchanged o (refusal a k) e = refl
   course-unchanged o (given value) e = absurd (false≢true e)
   course-unchanged o (appends fits s seq head k r value room) e = absurd (false≢true (sym (append-answers n s seq head (log .«next_seq») r _ f) ∙ e))
-  course-unchanged o (formats fits some k new few) e = absurd (false≢true (sym (commit-answers n n n 0 new WriteError Unformatted (log .«next_seq») f refl) ∙ e))
+  course-unchanged o (formats fits some k new few) e =
+      absurd (false≢true (sym (commit-answers n n n 0 new WriteError Unformatted (log .«next_seq») f refl) ∙ e))
   course-unchanged o (anchors fits some k d s seq within z r value) e = absurd (false≢true (sym (append-answers n s seq 1 _ r _ _) ∙ e))
 
-  entered-refuses : (known : Bool) (call : ℕ → Log → Flash → Outcome) (a : Answer) → entryAnswer n log known ≡ a → isDone a ≡ false → entered image log plan known call ≡ refused a log f
+  entered-refuses : (known : Bool) (call : ℕ → Log → Flash → Outcome) (a : Answer) → entryAnswer n log known ≡ a → isDone a ≡ false
+      → entered image log plan known call ≡ refused a log f
   unfolding entered
-  entered-refuses known call a e d = ap (λ (x : Answer). pick (isDone x) (call n log f) (refused x log f)) e ∙ ap (λ (b : Bool). pick b (call n log f) (refused a log f)) d
+  entered-refuses known call a e d =
+      ap (λ (x : Answer). pick (isDone x) (call n log f) (refused x log f)) e ∙ ap (λ (b : Bool). pick b (call n log f) (refused a log f)) d
 
   call-refuses : (c : Call) (a : Answer) → entryAnswer n log (knownIn c) ≡ a → isDone a ≡ false → outcomeOf c image log plan ≡ refused a log f
   unfolding putAnchorOf formatOf
   call-refuses =
       by-kind (λ (x : Shape). (a : Answer) → entryAnswer n log (x .known) ≡ a → isDone a ≡ false → x .outcome image log plan ≡ refused a log f)
-      (λ typed known tag id d r k. entered-refuses known (decided tag id d)) (λ new. entered-refuses true _) (λ seeds count. entered-refuses (seedsKnown seeds count) _)
+      (λ typed known tag id d r k. entered-refuses known (decided tag id d)) (λ new. entered-refuses true _)
+      (λ seeds count. entered-refuses (seedsKnown seeds count) _)
 
   -- ---- a call that was let in
   module _ (some : n ≡ 0 → ⊥) (fits : logFits n log ≡ true) where
@@ -138,17 +154,21 @@ module _ (image : List ℕ) (log : Log) (plan : Plan) where
     unfolding entered
     entered-on known call k = ap (λ (x : Answer). pick (isDone x) (call n log f) (refused x log f)) (answer-done n log known some fits k)
 
-    inactive : (d : Decision) (z : State) → isDone (byState NotFormatted ReadError Done z) ≡ false → performed (whenActive z d) n log f ≡ refused (byState NotFormatted ReadError Done z) log f
+    inactive : (d : Decision) (z : State) → isDone (byState NotFormatted ReadError Done z) ≡ false
+        → performed (whenActive z d) n log f ≡ refused (byState NotFormatted ReadError Done z) log f
     unfolding performed
     inactive d Unformatted e = refl
     inactive d Failed e = refl
     inactive d (Active sector seq head) e = absurd (false≢true (sym e))
 
-    keyed-not-ready : (known : Bool) (tag id : ℕ) (d : OptRaw → Bool → Decision) → known ≡ true → isDone (byState NotFormatted ReadError Done (log .state)) ≡ false
+    keyed-not-ready : (known : Bool) (tag id : ℕ) (d : OptRaw → Bool → Decision) → known ≡ true
+        → isDone (byState NotFormatted ReadError Done (log .state)) ≡ false
         → entered image log plan known (decided tag id d) ≡ refused (byState NotFormatted ReadError Done (log .state)) log f
-    keyed-not-ready known tag id d k e = entered-on known (decided tag id d) k ∙ inactive (d (heldOf tag id (recordsOf log)) (roomFor tag id (recordsOf log))) (log .state) e
+    keyed-not-ready known tag id d k e =
+        entered-on known (decided tag id d) k ∙ inactive (d (heldOf tag id (recordsOf log)) (roomFor tag id (recordsOf log))) (log .state) e
 
-    format-not-ready : (t : List Raw) (z : State) → isDone (byState Done WriteError WriteError z) ≡ false → formatOn z t n log f ≡ refused (byState Done WriteError WriteError z) log f
+    format-not-ready : (t : List Raw) (z : State) → isDone (byState Done WriteError WriteError z) ≡ false
+        → formatOn z t n log f ≡ refused (byState Done WriteError WriteError z) log f
     format-not-ready t Unformatted e = absurd (false≢true (sym e))
     format-not-ready t Failed e = refl
     format-not-ready t (Active sector seq head) e = refl
@@ -157,19 +177,26 @@ module _ (image : List ℕ) (log : Log) (plan : Plan) where
         → anchoredOn z new n log f ≡ refused (byState (pick (isFirst new) Done NotFormatted) ReadError Done z) log f
     anchor-not-ready new Unformatted e = go (isFirst new) e
       where
-        go : (b : Bool) → isDone (pick b Done NotFormatted) ≡ false → pick b (anchoredFirst new n (formatted [] n log f)) (refused NotFormatted log f) ≡ refused (pick b Done NotFormatted) log f
+        go : (b : Bool) → isDone (pick b Done NotFormatted) ≡ false
+            → pick b (anchoredFirst new n (formatted [] n log f)) (refused NotFormatted log f) ≡ refused (pick b Done NotFormatted) log f
         go true e = absurd (false≢true (sym e))
         go false e = refl
     anchor-not-ready new Failed e = refl
     anchor-not-ready new (Active sector seq head) e = absurd (false≢true (sym e))
 
-    call-not-ready : (c : Call) → knownIn c ≡ true → isDone (stateAnswer c (log .state)) ≡ false → outcomeOf c image log plan ≡ refused (stateAnswer c (log .state)) log f
+    call-not-ready : (c : Call) → knownIn c ≡ true → isDone (stateAnswer c (log .state)) ≡ false
+        → outcomeOf c image log plan ≡ refused (stateAnswer c (log .state)) log f
     unfolding putAnchorOf formatOf
     call-not-ready =
-        by-kind (λ (x : Shape). x .known ≡ true → isDone (x .by-state (log .state)) ≡ false → x .outcome image log plan ≡ refused (x .by-state (log .state)) log f)
+        by-kind
+        (λ (x : Shape).
+        x .known ≡ true → isDone (x .by-state (log .state)) ≡ false
+        → x .outcome image log plan ≡ refused (x .by-state (log .state)) log f)
         (λ typed known tag id d r m k e. keyed-not-ready known tag id d k e)
         (λ new k e. entered-on true (λ (n : ℕ) (l : Log) (f : Flash). anchoredOn (l .state) new n l f) k ∙ anchor-not-ready new (log .state) e)
-        (λ seeds count k e. entered-on (seedsKnown seeds count) (λ (n : ℕ) (l : Log) (f : Flash). formatOn (l .state) (seedTable seeds count) n l f) k ∙ format-not-ready (seedTable seeds count) (log .state) e)
+        (λ seeds count k e.
+        entered-on (seedsKnown seeds count) (λ (n : ℕ) (l : Log) (f : Flash). formatOn (l .state) (seedTable seeds count) n l f) k
+        ∙ format-not-ready (seedTable seeds count) (log .state) e)
 
   pub demand-1 : (c : Call) → Refuses c image log plan
   demand-1 c = record {
@@ -186,11 +213,13 @@ module _ (log : Log) where
   some-sectors e = false≢true (ap (λ (x : ℕ). eqb x 0) e)
 
   -- 2 and 3; load tells them from 4 and 5 by their numbers
-  asked-refused : (q : Asked) (a : Answer) → entryAnswer 16 log (knownTo q) ≡ a → isDone a ≡ false → leb 4 (numberOf a) ≡ false → replyOf q log ≡ turnedAway q a
+  asked-refused : (q : Asked) (a : Answer) → entryAnswer 16 log (knownTo q) ≡ a → isDone a ≡ false → leb 4 (numberOf a) ≡ false
+      → replyOf q log ≡ turnedAway q a
   unfolding getOf valueOf anchorOf needsMigrationOf
   asked-refused (get credential) a e d low = turned-away counterBy counter.Refused log (isCredential credential) counterTag credential a e d
   asked-refused (get-value id) a e d low = turned-away numberBy number.Refused log (isValue id) valueTag id a e d
-  asked-refused (remaining credential) a e d low = ap triesLeftBy (turned-away counterBy counter.Refused log (isCredential credential) counterTag credential a e d)
+  asked-refused (remaining credential) a e d low =
+      ap triesLeftBy (turned-away counterBy counter.Refused log (isCredential credential) counterTag credential a e d)
   asked-refused anchor a e d low = turned-away anchorBy anchored.Refused log true anchorTag 0 a e d
   asked-refused lamport a e d low = ap lamportBy (turned-away numberBy number.Refused log true valueTag lamportId a e d)
   asked-refused needs-migration a e d low = turned-away migrationBy toldRefused log true anchorTag 0 a e d
@@ -198,26 +227,33 @@ module _ (log : Log) where
       ap (loadBy exists fresh) (ap triesLeftBy (turned-away counterBy counter.Refused log (isCredential credential) counterTag credential a e d))
       ∙ ap (λ (b : Bool). pick b (toldOf 0) (toldRefused a)) low
 
-  by-counter : (z : State) (held : OptRaw) → isDone (byState NotFormatted ReadError Done z) ≡ false → counterBy z held ≡ counter.Refused (byState NotFormatted ReadError Done z)
+  by-counter : (z : State) (held : OptRaw) → isDone (byState NotFormatted ReadError Done z) ≡ false
+      → counterBy z held ≡ counter.Refused (byState NotFormatted ReadError Done z)
   by-counter Unformatted held e = refl
   by-counter Failed held e = refl
   by-counter (Active sector seq head) held e = absurd (false≢true (sym e))
 
-  by-number : (z : State) (held : OptRaw) → isDone (byState NotFormatted ReadError Done z) ≡ false → numberBy z held ≡ number.Refused (byState NotFormatted ReadError Done z)
+  by-number : (z : State) (held : OptRaw) → isDone (byState NotFormatted ReadError Done z) ≡ false
+      → numberBy z held ≡ number.Refused (byState NotFormatted ReadError Done z)
   by-number Unformatted held e = refl
   by-number Failed held e = refl
   by-number (Active sector seq head) held e = absurd (false≢true (sym e))
 
-  by-anchor : (z : State) (held : OptRaw) → isDone (byState Done ReadError Done z) ≡ false → anchorBy z held ≡ anchored.Refused (byState Done ReadError Done z)
+  by-anchor : (z : State) (held : OptRaw) → isDone (byState Done ReadError Done z) ≡ false
+      → anchorBy z held ≡ anchored.Refused (byState Done ReadError Done z)
   by-anchor Unformatted held e = absurd (false≢true (sym e))
   by-anchor Failed held e = refl
   by-anchor (Active sector seq head) held e = absurd (false≢true (sym e))
 
-  asked-not-ready : (q : Asked) → isDone (entryAnswer 16 log (knownTo q)) ≡ true → isDone (stateReply q (log .state)) ≡ false → replyOf q log ≡ turnedAway q (stateReply q (log .state))
+  asked-not-ready : (q : Asked) → isDone (entryAnswer 16 log (knownTo q)) ≡ true → isDone (stateReply q (log .state)) ≡ false
+      → replyOf q log ≡ turnedAway q (stateReply q (log .state))
   unfolding getOf valueOf anchorOf needsMigrationOf
-  asked-not-ready (get credential) e d = taken-in counterBy counter.Refused log (isCredential credential) counterTag credential e ∙ by-counter (log .state) _ d
+  asked-not-ready (get credential) e d =
+      taken-in counterBy counter.Refused log (isCredential credential) counterTag credential e ∙ by-counter (log .state) _ d
   asked-not-ready (get-value id) e d = taken-in numberBy number.Refused log (isValue id) valueTag id e ∙ by-number (log .state) _ d
-  asked-not-ready (remaining credential) e d = ap triesLeftBy (taken-in counterBy counter.Refused log (isCredential credential) counterTag credential e ∙ by-counter (log .state) _ d)
+  asked-not-ready (remaining credential) e d =
+      ap triesLeftBy
+      (taken-in counterBy counter.Refused log (isCredential credential) counterTag credential e ∙ by-counter (log .state) _ d)
   asked-not-ready anchor e d = taken-in anchorBy anchored.Refused log true anchorTag 0 e ∙ by-anchor (log .state) _ d
   asked-not-ready lamport e d = ap lamportBy (taken-in numberBy number.Refused log true valueTag lamportId e ∙ by-number (log .state) _ d)
   asked-not-ready needs-migration e d = absurd (false≢true (sym d))
@@ -233,4 +269,8 @@ module _ (log : Log) where
 -- ---- opening
 pub demand-1-open : (image : List ℕ) → RefusesImage image
 unfolding openOf
-demand-1-open image e = ap (λ (b : Bool). pick b (record { answer = BadImage; log = logOf Failed 1 [] }) (record { answer = Done; log = logFrom (scanOf 2 image) })) (eq-eqb (sectorsIn (length image)) 0 e)
+demand-1-open image e =
+    ap
+    (λ (b : Bool).
+    pick b (record { answer = BadImage; log = logOf Failed 1 [] }) (record { answer = Done; log = logFrom (scanOf 2 image) }))
+    (eq-eqb (sectorsIn (length image)) 0 e)

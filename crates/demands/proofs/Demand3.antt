@@ -24,7 +24,8 @@ abbrev pub Agree : World → Type 0
 Agree w = Inv (w .image) (w .log)
 
 -- ---- while power lasts
-safe-agrees : (n : ℕ) (C : List ℕ → Type 0) (P : Seen → Type 0) (later : Table) (o : Outcome) → o .flash .cut ≡ false → SafeCall n C P later o → Agree (afterwards o)
+safe-agrees : (n : ℕ) (C : List ℕ → Type 0) (P : Seen → Type 0) (later : Table) (o : Outcome) → o .flash .cut ≡ false
+    → SafeCall n C P later o → Agree (afterwards o)
 safe-agrees n C P later o e (lasted on z i d) = i
 safe-agrees n C P later o e (stopped c k w) = absurd (false≢true (sym e ∙ c .marked))
 
@@ -41,7 +42,11 @@ agrees-finds : (w : World) → Agree w → FindsAgain w
 agrees-finds w i = let found = inv-open (w .image) (w .log) i in record { same = found .0; head = found .1 }
 
 -- ---- one call more
-safe-wakes : (w : World) (m : Made) → SafeCall (sectorsIn (length (w .image))) (Unmatched (appendsTo (m .call) (w .image) (w .log) (m .plan)) (recordOf (m .call) (recordsOf (w .log)))) (NoEffect (m .call) (w .log)) (tableAfter (m .call) (w .image) (w .log)) (outcome m w) → WakesWith w m
+safe-wakes : (w : World) (m : Made)
+    → SafeCall (sectorsIn (length (w .image)))
+    (Unmatched (appendsTo (m .call) (w .image) (w .log) (m .plan)) (recordOf (m .call) (recordsOf (w .log))))
+    (NoEffect (m .call) (w .log)) (tableAfter (m .call) (w .image) (w .log)) (outcome m w)
+    → WakesWith w m
 safe-wakes w m (lasted on z i (inl d)) =
     let found = inv-open (outcome m w .flash .image) (outcome m w .log) i .0 in
     record {
@@ -64,14 +69,16 @@ safe-wakes w m (stopped c k wakes) =
     }
   where
     go : WakesUp (NoEffect (m .call) (w .log)) (tableAfter (m .call) (w .image) (w .log)) (outcome m w .flash .image)
-        → NoEffect (m .call) (w .log) (seen (openOf (outcome m w .flash .image) .log)) ⊎ (tableOf (openOf (outcome m w .flash .image) .log) ≡ tableAfter (m .call) (w .image) (w .log))
+        → NoEffect (m .call) (w .log) (seen (openOf (outcome m w .flash .image) .log))
+        ⊎ (tableOf (openOf (outcome m w .flash .image) .log) ≡ tableAfter (m .call) (w .image) (w .log))
     go u = shown (u .shows)
       where
         found : seen (openOf (outcome m w .flash .image) .log) ≡ seen (u .log)
         found = inv-open (outcome m w .flash .image) (u .log) (u .inv) .0
 
         shown : NoEffect (m .call) (w .log) (seen (u .log)) ⊎ (tableOf (u .log) ≡ tableAfter (m .call) (w .image) (w .log))
-            → NoEffect (m .call) (w .log) (seen (openOf (outcome m w .flash .image) .log)) ⊎ (tableOf (openOf (outcome m w .flash .image) .log) ≡ tableAfter (m .call) (w .image) (w .log))
+            → NoEffect (m .call) (w .log) (seen (openOf (outcome m w .flash .image) .log))
+            ⊎ (tableOf (openOf (outcome m w .flash .image) .log) ≡ tableAfter (m .call) (w .image) (w .log))
         shown (inl a) = inl (subst (NoEffect (m .call) (w .log)) (sym found) a)
         shown (inr a) = inr (ap tableIn found ∙ a)
 

@@ -12,7 +12,8 @@ use Rattle.basics.specs.declared.Answer.{Answer}
 use Rattle.flash.specs.Image.{slotAt, sectorAt, withSlot, withSector}
 use Rattle.flash.specs.Run.{Flash, Stepped, blanked, program, erase}
 use Rattle.flash.proofs.PowerLaws.{Short}
-use Rattle.flash.proofs.RunLaws.{Programmed, program-refused, program-stopped, program-whole, program-outcome, blank-lands, found-done, Erased, erase-refused, erase-stopped, erase-whole, erase-outcome, Dead, program-dead, erase-dead}
+use Rattle.flash.proofs.RunLaws.{Programmed, program-refused, program-stopped, program-whole, program-outcome, blank-lands, found-done}
+use Rattle.flash.proofs.RunLaws.{Erased, erase-refused, erase-stopped, erase-whole, erase-outcome, Dead, program-dead, erase-dead}
 use Rattle.demands.specs.Chance.{cutAt}
 use Rattle.demands.specs.Healthy.{Healthy}
 use Rattle.demands.proofs.Torn.{landed-cut}
@@ -37,11 +38,14 @@ short-ill f n h w = false≢true (sym (w .endless) ∙ h .0)
 -- ---- a blank slot is programmed
 pub data Ran (s k : ℕ) (new : List ℕ) (f : Flash) (o : Stepped) : Type 0 where
   refused : (Healthy f → ⊥) → Fails (o .answer) → o .flash .cut ≡ false → o .flash .image ≡ f .image → Ran s k new f o
-  done : (Healthy f → Healthy (o .flash)) → isDone (o .answer) ≡ true → o .flash .cut ≡ false → o .flash .image ≡ withSlot s k new (f .image) → Used 16 0 f (o .flash) → Ran s k new f o
-  stopped : (Healthy f → ⊥) → Fails (o .answer) → Cut (o .flash) → (j : ℕ) → j < 16 → o .flash .image ≡ withSlot s k (cutAt j new) (f .image) → Ran s k new f o
+  done : (Healthy f → Healthy (o .flash)) → isDone (o .answer) ≡ true → o .flash .cut ≡ false
+      → o .flash .image ≡ withSlot s k new (f .image) → Used 16 0 f (o .flash) → Ran s k new f o
+  stopped : (Healthy f → ⊥) → Fails (o .answer) → Cut (o .flash) → (j : ℕ) → j < 16
+      → o .flash .image ≡ withSlot s k (cutAt j new) (f .image) → Ran s k new f o
 
 module _ (s k : ℕ) (new : List ℕ) (f : Flash) where
-  pub program-ran : f .cut ≡ false → slotAt (f .image) s k ≡ replicate 16 0xFF → length new ≡ 16 → T (areBytes new) → Ran s k new f (program s k new f)
+  pub program-ran : f .cut ≡ false → slotAt (f .image) s k ≡ replicate 16 0xFF → length new ≡ 16 → T (areBytes new)
+      → Ran s k new f (program s k new f)
   program-ran on blank size bytes = go (program-outcome s k new f)
     where
       go : {o : Stepped} → Programmed s k new f o → Ran s k new f o
@@ -58,8 +62,10 @@ module _ (s k : ℕ) (new : List ℕ) (f : Flash) where
 -- ---- a sector is erased
 pub data Wiped (s : ℕ) (f : Flash) (o : Stepped) : Type 0 where
   refused : (Healthy f → ⊥) → Fails (o .answer) → o .flash .cut ≡ false → o .flash .image ≡ f .image → Wiped s f o
-  done : (Healthy f → Healthy (o .flash)) → isDone (o .answer) ≡ true → o .flash .cut ≡ false → o .flash .image ≡ withSector s (blanked 4096 (sectorAt (f .image) s)) (f .image) → Used 0 4096 f (o .flash) → Wiped s f o
-  stopped : (Healthy f → ⊥) → Fails (o .answer) → Cut (o .flash) → (j : ℕ) → j < 4096 → o .flash .image ≡ withSector s (blanked j (sectorAt (f .image) s)) (f .image) → Wiped s f o
+  done : (Healthy f → Healthy (o .flash)) → isDone (o .answer) ≡ true → o .flash .cut ≡ false
+      → o .flash .image ≡ withSector s (blanked 4096 (sectorAt (f .image) s)) (f .image) → Used 0 4096 f (o .flash) → Wiped s f o
+  stopped : (Healthy f → ⊥) → Fails (o .answer) → Cut (o .flash) → (j : ℕ) → j < 4096
+      → o .flash .image ≡ withSector s (blanked j (sectorAt (f .image) s)) (f .image) → Wiped s f o
 
 pub erase-wiped : (s : ℕ) (f : Flash) → f .cut ≡ false → Wiped s f (erase s f)
 erase-wiped s f on = go (erase-outcome s f)
@@ -68,7 +74,8 @@ erase-wiped s f on = go (erase-outcome s f)
     go (erase-refused h) = refused (λ w. false≢true (sym (w .erasing) ∙ h)) refl on refl
     go (erase-stopped e h) = stopped (short-ill f 4096 h) refl (record { marked = refl; dead = (refl, refl) }) (f .plan .units) (h .1) refl
     go (erase-whole e h) =
-        done (λ w. record { endless = w .endless; erasing = w .erasing; willing = w .willing }) refl on refl (record { programmed = omega arith; erased = refl })
+        done (λ w. record { endless = w .endless; erasing = w .erasing; willing = w .willing }) refl on refl
+        (record { programmed = omega arith; erased = refl })
 
 -- ---- after a stop
 -- an answer that fails, the image as it was, and still no power

@@ -66,31 +66,44 @@ module _ (image : List ℕ) (log : Log) (i : Inv image log) where
       entered-on image log healthy (active-some s seq head e) (inv-fits image log i) known (decided tag id d) k
       ∙ ap (λ (z : State). performed (whenActive z (d (heldOf tag id (recordsOf log)) (roomFor tag id (recordsOf log)))) n log f) e
 
-  anchor-is : (new : Anchor) → (s seq head : ℕ) → log .state ≡ Active s seq head → putAnchorOf image log healthy new ≡ performed (decisionOf (put-anchor new) (recordsOf log)) n log f
+  anchor-is : (new : Anchor) → (s seq head : ℕ) → log .state ≡ Active s seq head
+      → putAnchorOf image log healthy new ≡ performed (decisionOf (put-anchor new) (recordsOf log)) n log f
   unfolding putAnchorOf
   anchor-is new s seq head e =
-      entered-on image log healthy (active-some s seq head e) (inv-fits image log i) true (λ (n : ℕ) (l : Log) (f : Flash). anchored (l .state) new n l f) refl
+      entered-on image log healthy (active-some s seq head e) (inv-fits image log i) true
+      (λ (n : ℕ) (l : Log) (f : Flash). anchored (l .state) new n l f) refl
       ∙ ap (λ (z : State). anchored z new n log f) e
       ∙ ap (λ (z : State). performed (whenActive z (decisionOf (put-anchor new) (recordsOf log))) n log f) e
 
-  call-is : (c : Call) → knownIn c ≡ true → (s seq head : ℕ) → log .state ≡ Active s seq head → decisionOf c (recordsOf log) .write ≡ true → outcomeOf c image log healthy ≡ performed (decisionOf c (recordsOf log)) n log f
+  call-is : (c : Call) → knownIn c ≡ true → (s seq head : ℕ) → log .state ≡ Active s seq head → decisionOf c (recordsOf log) .write ≡ true
+      → outcomeOf c image log healthy ≡ performed (decisionOf c (recordsOf log)) n log f
   call-is =
-      by-kind (λ (x : Shape). x .known ≡ true → (s seq head : ℕ) → log .state ≡ Active s seq head → x .decision (recordsOf log) .write ≡ true → x .outcome image log healthy ≡ performed (x .decision (recordsOf log)) n log f)
-      (λ typed known tag id d r m k s seq head e w. keyed-is known tag id d k s seq head e) (λ new k s seq head e w. anchor-is new s seq head e) (λ seeds count k s seq head e w. absurd (false≢true w))
+      by-kind
+      (λ (x : Shape).
+      x .known ≡ true → (s seq head : ℕ) → log .state ≡ Active s seq head → x .decision (recordsOf log) .write ≡ true
+      → x .outcome image log healthy ≡ performed (x .decision (recordsOf log)) n log f)
+      (λ typed known tag id d r m k s seq head e w. keyed-is known tag id d k s seq head e)
+      (λ new k s seq head e w. anchor-is new s seq head e) (λ seeds count k s seq head e w. absurd (false≢true w))
 
   -- what it writes may be written
   call-writable : (c : Call) → Typed c → decisionOf c (recordsOf log) .write ≡ true → Writable (decisionOf c (recordsOf log) .rec) (recordsOf log)
   call-writable =
       by-kind (λ (x : Shape). x .typed → x .decision (recordsOf log) .write ≡ true → Writable (x .decision (recordsOf log) .rec) (recordsOf log))
       (λ typed known tag id d r m t e. writes-writable _ _ (recordsOf log) (m .sound t (recordsOf log) (i .agrees .proper .whole) e))
-      (λ new t e. writes-writable _ _ (recordsOf log) (anchor-sound new t (recordsOf log) (i .agrees .proper .whole) e)) (λ seeds count t e. absurd (false≢true e))
+      (λ new t e. writes-writable _ _ (recordsOf log) (anchor-sound new t (recordsOf log) (i .agrees .proper .whole) e))
+      (λ seeds count t e. absurd (false≢true e))
 
   pub writes-well : (c : Call) → Typed c → WritesWell c image log
   writes-well c typed = record {
     append = λ k s seq head e w room.
-        subst (Reports _ _ 16 0) (sym (call-is c k s seq head e w)) (reports _ _ 16 0 _ (performed-appends f log refl i well (decisionOf c (recordsOf log)) w (call-writable c typed w) s seq head e room));
+        subst (Reports _ _ 16 0) (sym (call-is c k s seq head e w))
+        (reports _ _ 16 0 _
+        (performed-appends f log refl i well (decisionOf c (recordsOf log)) w (call-writable c typed w) s seq head e room));
     commit = λ k s seq head e w full others most.
-        subst (Reports _ _ _ 4096) (sym (call-is c k s seq head e w)) (reports _ _ _ 4096 _ (performed-rotates f log refl i well (decisionOf c (recordsOf log)) w (call-writable c typed w) s seq head e full others most));
+        subst (Reports _ _ _ 4096) (sym (call-is c k s seq head e w))
+        (reports _ _ _ 4096 _
+        (performed-rotates f log refl i well (decisionOf c (recordsOf log)) w (call-writable c typed w) s seq head e full others
+        most));
   }
 
   pub formats-well : (seeds : List Seed) (count : ℕ) → TypedSeeds seeds → FormatsWell seeds count image log
@@ -98,6 +111,8 @@ module _ (image : List ℕ) (log : Log) (i : Inv image log) where
   formats-well seeds count typed k e most =
       let there = subst (λ (y : State). Agrees n image y (log .«next_seq») (recordsOf log)) e (i .agrees) in
       let some : n ≡ 0 → ⊥ = λ z. omega (arith, there .found .1) in
-      let on = entered-on image log healthy some (inv-fits image log i) (seedsKnown seeds count) (λ (n : ℕ) (l : Log) (f : Flash). formatOn (l .state) (seedTable seeds count) n l f) k in
+      let on =
+      entered-on image log healthy some (inv-fits image log i) (seedsKnown seeds count)
+      (λ (n : ℕ) (l : Log) (f : Flash). formatOn (l .state) (seedTable seeds count) n l f) k in
       subst (Reports 0 _ _ 4096) (sym (on ∙ ap (λ (z : State). formatOn z (seedTable seeds count) n log f) e))
       (reports 0 _ _ 4096 _ (formatted-succeeds f log refl i well e (seedTable seeds count) (seeds-proper image log i seeds count typed k) most))

@@ -36,13 +36,16 @@ pub record Succeeds (f : Flash) (value : ℕ) (log : Log) (p e : ℕ) (o : Outco
   pub on : o .flash .cut ≡ false
   pub healthy : Healthy (o .flash)
 
-wrote-succeeds : (f : Flash) (w : Written) (state : State) (next p e value : ℕ) (new old : List Raw) → Reached f w state next p e → Succeeds f value (logOf state next new) p e (writtenOutcome w value new old)
+wrote-succeeds : (f : Flash) (w : Written) (state : State) (next p e value : ℕ) (new old : List Raw) → Reached f w state next p e
+    → Succeeds f value (logOf state next new) p e (writtenOutcome w value new old)
 wrote-succeeds f w state next p e value new old x =
     let d = ap isDone (x .answer) in
     record {
       answer = x .answer;
       value-is = ap (λ (b : Bool). pick b value 0) d;
-      log-is = ap (λ (b : Bool). logOf (w .state) (w .next) (pick b new old)) d ∙ ap₂ (λ (z : State) (m : ℕ). logOf z m new) (x .state-is) (x .next-is);
+      log-is =
+          ap (λ (b : Bool). logOf (w .state) (w .next) (pick b new old)) d
+          ∙ ap₂ (λ (z : State) (m : ℕ). logOf z m new) (x .state-is) (x .next-is);
       used = x .used;
       on = x .on;
       healthy = x .healthy;
@@ -58,30 +61,45 @@ module _ (f : Flash) (log : Log) (on : f .cut ≡ false) (i : Inv (f .image) log
   here : (state : State) → log .state ≡ state → Agrees n (f .image) state next (recordsOf log)
   here state e = subst (λ (z : State). Agrees n (f .image) z next (recordsOf log)) e (i .agrees)
 
-  module _ (d : Decision) (writes : d .write ≡ true) (w : Writable (d .rec) (recordsOf log)) (s seq head : ℕ) (active : log .state ≡ Active s seq head) where
+  module _ (d : Decision) (writes : d .write ≡ true) (w : Writable (d .rec) (recordsOf log)) (s seq head : ℕ)
+      (active : log .state ≡ Active s seq head) where
     abbrev new : List Raw
     new = joined (d .rec) (recordsOf log)
 
     performed-is : performed d n log f ≡ writtenOutcome (appendOf n s seq head next (d .rec) new f) (d .value) new (recordsOf log)
     unfolding performed
     performed-is =
-        ap (λ (b : Bool). pick b (appended (log .state) n (d .rec) (d .value) log f) (record { answer = d .answer; value = d .value; log = log; flash = f })) writes
+        ap
+        (λ (b : Bool).
+        pick b (appended (log .state) n (d .rec) (d .value) log f)
+        (record { answer = d .answer; value = d .value; log = log; flash = f }))
+        writes
         ∙ ap (λ (z : State). appended z n (d .rec) (d .value) log f) active
 
     pub performed-appends : head < 256 → Succeeds f (d .value) (logOf (Active s seq (head + 1)) next new) 16 0 (performed d n log f)
     performed-appends room =
         subst (Succeeds f (d .value) (logOf (Active s seq (head + 1)) next new) 16 0) (sym performed-is)
-        (wrote-succeeds f _ (Active s seq (head + 1)) next 16 0 (d .value) new (recordsOf log) (append-reached n s seq (d .rec) (recordsOf log) w next head f room on (here (Active s seq head) active) h))
+        (wrote-succeeds f _ (Active s seq (head + 1)) next 16 0 (d .value) new (recordsOf log)
+        (append-reached n s seq (d .rec) (recordsOf log) w next head f room on (here (Active s seq head) active) h))
 
-    pub performed-rotates : head ≡ 256 → 1 < n → (next ≡ seqMax → ⊥) → Succeeds f (d .value) (logOf (Active (sectorAfter n s) next (length new + 1)) (next + 1) new) (16 * (length new + 1)) 4096 (performed d n log f)
+    pub performed-rotates : head ≡ 256 → 1 < n → (next ≡ seqMax → ⊥)
+        → Succeeds f (d .value) (logOf (Active (sectorAfter n s) next (length new + 1)) (next + 1) new) (16 * (length new + 1)) 4096
+        (performed d n log f)
     performed-rotates full others most =
-        subst (Succeeds f (d .value) (logOf (Active (sectorAfter n s) next (length new + 1)) (next + 1) new) (16 * (length new + 1)) 4096) (sym performed-is)
+        subst (Succeeds f (d .value) (logOf (Active (sectorAfter n s) next (length new + 1)) (next + 1) new) (16 * (length new + 1)) 4096)
+        (sym performed-is)
         (wrote-succeeds f _ (Active (sectorAfter n s) next (length new + 1)) (next + 1) (16 * (length new + 1)) 4096 (d .value) new (recordsOf log)
         (append-rotated n s seq (d .rec) (recordsOf log) w next head full f others most on (here (Active s seq head) active) h))
 
-  pub formatted-succeeds : log .state ≡ Unformatted → (t : List Raw) → Proper t → (next ≡ seqMax → ⊥) → Succeeds f 0 (logOf (Active 0 next (length t + 1)) (next + 1) t) (16 * (length t + 1)) 4096 (formatted t n log f)
+  pub formatted-succeeds : log .state ≡ Unformatted → (t : List Raw) → Proper t → (next ≡ seqMax → ⊥)
+      → Succeeds f 0 (logOf (Active 0 next (length t + 1)) (next + 1) t) (16 * (length t + 1)) 4096 (formatted t n log f)
   formatted-succeeds e t proper most =
       let there = here Unformatted e in
       let bare = subst (λ (l : List Raw). Agrees n (f .image) Unformatted next l) (there .found .0) there in
-      subst (λ (z : State). Succeeds f 0 (logOf (Active 0 next (length t + 1)) (next + 1) t) (16 * (length t + 1)) 4096 (writtenOutcome (commitFirst n t z next f) 0 t [])) (sym e)
-      (wrote-succeeds f _ (Active 0 next (length t + 1)) (next + 1) (16 * (length t + 1)) 4096 0 t [] (first-reached n next t proper (f .image) bare f refl most on h))
+      subst
+      (λ (z : State).
+      Succeeds f 0 (logOf (Active 0 next (length t + 1)) (next + 1) t) (16 * (length t + 1)) 4096
+      (writtenOutcome (commitFirst n t z next f) 0 t []))
+      (sym e)
+      (wrote-succeeds f _ (Active 0 next (length t + 1)) (next + 1) (16 * (length t + 1)) 4096 0 t []
+      (first-reached n next t proper (f .image) bare f refl most on h))

@@ -66,12 +66,16 @@ pub record Inv (image : List ℕ) (log : Log) : Type 0 where
 pub inv-of : (n : ℕ) (image : List ℕ) (state : State) (next : ℕ) (t : List Raw) → Agrees n image state next t → Inv image (logOf state next t)
 inv-of n image state next t a = record {
   is = ap (logOf state next) (sym (places-take t));
-  agrees = subst (λ (l : List Raw). Agrees (sectorsIn (length image)) image state next l) (sym (places-take t)) (subst (λ (m : ℕ). Agrees m image state next t) (sym (a .sized)) a);
+  agrees =
+      subst (λ (l : List Raw). Agrees (sectorsIn (length image)) image state next l) (sym (places-take t))
+      (subst (λ (m : ℕ). Agrees m image state next t) (sym (a .sized)) a);
 }
 
 -- the log passes the BadLog test
-pub agrees-fits : (n : ℕ) (image : List ℕ) (state : State) (next : ℕ) (t : List Raw) → Agrees n image state next t → logFits n (logOf state next t) ≡ true
-agrees-fits n image state next t a = log-fits n state next t (λ e. omega (arith, a .numbered)) (a .proper .few) (stated state (a .found)) (a .proper .keyed)
+pub agrees-fits : (n : ℕ) (image : List ℕ) (state : State) (next : ℕ) (t : List Raw) → Agrees n image state next t
+    → logFits n (logOf state next t) ≡ true
+agrees-fits n image state next t a =
+    log-fits n state next t (λ e. omega (arith, a .numbered)) (a .proper .few) (stated state (a .found)) (a .proper .keyed)
   where
     stated : (z : State) → Found z n image next t → stateFits n z next (length t) ≡ true
     stated Unformatted f = rw (f .0)
@@ -79,7 +83,9 @@ agrees-fits n image state next t a = log-fits n state next t (λ e. omega (arith
     stated (Active s seq head) f = placed-state n s seq head next (length t) (f .placed)
 
 pub inv-fits : (image : List ℕ) (log : Log) → Inv image log → logFits (sectorsIn (length image)) log ≡ true
-inv-fits image log i = ap (logFits (sectorsIn (length image))) (i .is) ∙ agrees-fits (sectorsIn (length image)) image (log .state) (log .«next_seq») (recordsOf log) (i .agrees)
+inv-fits image log i =
+    ap (logFits (sectorsIn (length image))) (i .is)
+    ∙ agrees-fits (sectorsIn (length image)) image (log .state) (log .«next_seq») (recordsOf log) (i .agrees)
 
 -- ---- what opening finds
 -- erased slots hold no record
@@ -93,9 +99,11 @@ all-below seq slots head low high erased =
     let all : 255 ≡ head - 1 + (256 - head) = omega arith in
     ap (λ (n : ℕ). readFrom n 1 seq slots (these [])) all
     ∙ read-on seq slots (head - 1) (256 - head) 1 (these [])
-    ∙ read-quiet seq slots (256 - head) (1 + (head - 1)) (readFrom (head - 1) 1 seq slots (these [])) (λ k l u. erased-quiet seq slots k (erased k (omega arith) (omega arith)))
+    ∙ read-quiet seq slots (256 - head) (1 + (head - 1)) (readFrom (head - 1) 1 seq slots (these []))
+    (λ k l u. erased-quiet seq slots k (erased k (omega arith) (omega arith)))
 
-opened : (image : List ℕ) → 0 < sectorsIn (length image) → openOf image ≡ record { answer = Done; log = logFrom (regionChosen image (chosenOf 2 (sectorsIn (length image)) image)) }
+opened : (image : List ℕ) → 0 < sectorsIn (length image)
+    → openOf image ≡ record { answer = Done; log = logFrom (regionChosen image (chosenOf 2 (sectorsIn (length image)) image)) }
 unfolding openOf scanOf
 opened image h = rw (ne-eqb (sectorsIn (length image)) 0 (λ e. omega arith))
 
@@ -111,8 +119,10 @@ module _ (n : ℕ) (image : List ℕ) (sized : sectorsIn (length image) ≡ n) w
     standing-open : openOf image .log ≡ logOf (Active s seq foundHead) (nextOf (Active s seq foundHead)) t
     standing-open =
         let within = g .placed .within in
-        let chosen : chosenOf 2 (sectorsIn (length image)) image ≡ Sector s seq = ap (λ (m : ℕ). chosenOf 2 m image) sized ∙ winner-chosen (headerAt 2 image) n s seq (g .wins) in
-        let records : recordsIn seq (slotAt image s) ≡ these t = all-below seq (slotAt image s) head (g .placed .low) (g .placed .high) (g .erased) ∙ g .reads in
+        let chosen : chosenOf 2 (sectorsIn (length image)) image ≡ Sector s seq =
+        ap (λ (m : ℕ). chosenOf 2 m image) sized ∙ winner-chosen (headerAt 2 image) n s seq (g .wins) in
+        let records : recordsIn seq (slotAt image s) ≡ these t =
+        all-below seq (slotAt image s) head (g .placed .low) (g .placed .high) (g .erased) ∙ g .reads in
         ap (λ (o : Opened). o .log) (opened image (omega arith))
         ∙ ap (λ (c : Chosen). logFrom (regionChosen image c)) chosen
         ∙ ap (λ (r : Read). logFrom (regionRead s seq foundHead r)) records
@@ -135,12 +145,14 @@ module _ (n : ℕ) (image : List ℕ) (sized : sectorsIn (length image) ≡ n) w
 
   none-open : ((s : ℕ) → s < n → headerAt 2 image s ≡ Invalid) → 0 < n → openOf image .log ≡ logOf Unformatted 1 []
   none-open none h =
-      let chosen : chosenOf 2 (sectorsIn (length image)) image ≡ Nothing = ap (λ (m : ℕ). chosenOf 2 m image) sized ∙ none-chosen (headerAt 2 image) n none in
+      let chosen : chosenOf 2 (sectorsIn (length image)) image ≡ Nothing =
+      ap (λ (m : ℕ). chosenOf 2 m image) sized ∙ none-chosen (headerAt 2 image) n none in
       ap (λ (o : Opened). o .log) (opened image (omega arith))
       ∙ ap (λ (c : Chosen). logFrom (regionChosen image c)) chosen
 
   -- the invariant says what opening finds, and that the head found is no higher than the one held
-  pub agrees-open : (state : State) (next : ℕ) (t : List Raw) → Found state n image next t → (seen (openOf image .log) ≡ seenBy state t) × (headOf (openOf image .log .state) ≤ headOf state)
+  pub agrees-open : (state : State) (next : ℕ) (t : List Raw) → Found state n image next t
+      → (seen (openOf image .log) ≡ seenBy state t) × (headOf (openOf image .log .state) ≤ headOf state)
   agrees-open Unformatted next t f =
       let e = none-open (f .2) (f .1) in
       (ap seen e, subst (λ (l : Log). headOf (l .state) ≤ 0) (sym e) (omega arith))
@@ -150,7 +162,8 @@ module _ (n : ℕ) (image : List ℕ) (sized : sectorsIn (length image) ≡ n) w
       let e = standing-open s seq head next t f in
       (ap seen e ∙ ap (active s seq) (places-take t), subst (λ (l : Log). headOf (l .state) ≤ head) (sym e) (head-within s seq head next t f))
 
-pub inv-open : (image : List ℕ) (log : Log) → Inv image log → (seen (openOf image .log) ≡ seen log) × (headOf (openOf image .log .state) ≤ headOf (log .state))
+pub inv-open : (image : List ℕ) (log : Log) → Inv image log
+    → (seen (openOf image .log) ≡ seen log) × (headOf (openOf image .log .state) ≤ headOf (log .state))
 inv-open image log i = agrees-open (sectorsIn (length image)) image refl (log .state) (log .«next_seq») (recordsOf log) (i .agrees .found)
 
 -- ---- opening any image gives a log that agrees with it
@@ -159,7 +172,9 @@ module _ (image : List ℕ) (bytes : T (areBytes image)) where
   n = sectorsIn (length image)
 
   failed-inv : openOf image .log .state ≡ Failed → Inv image (logOf Failed 1 [])
-  failed-inv e = inv-of n image Failed 1 [] (record { sized = refl; bytes = bytes; numbered = omega arith; most = omega arith; proper = proper-none; found = (refl, e) })
+  failed-inv e =
+      inv-of n image Failed 1 []
+      (record { sized = refl; bytes = bytes; numbered = omega arith; most = omega arith; proper = proper-none; found = (refl, e) })
 
   next-later : (seq : ℕ) → (seq < max 1 (min (seq + 1) seqMax)) ⊎ (max 1 (min (seq + 1) seqMax) ≡ seqMax)
   next-later seq = go (leb seqMax (seq + 1)) refl
@@ -169,7 +184,8 @@ module _ (image : List ℕ) (bytes : T (areBytes image)) where
       go false e = let h = leb-false seqMax (seq + 1) e in inl (omega arith)
 
   read-inv : (s seq : ℕ) → Wins (headerAt 2 image) n s seq → (read : Read) → recordsIn seq (slotAt image s) ≡ read → ProperRead read
-      → openOf image .log ≡ logFrom (regionRead s seq (headIn (slotAt image s)) read) → Inv image (logFrom (regionRead s seq (headIn (slotAt image s)) read))
+      → openOf image .log ≡ logFrom (regionRead s seq (headIn (slotAt image s)) read)
+      → Inv image (logFrom (regionRead s seq (headIn (slotAt image s)) read))
   read-inv s seq w tooMany e p o = failed-inv (ap (λ (l : Log). l .state) o)
   read-inv s seq w (these t) e p o =
       let heads = head-right (slotAt image s) in
@@ -190,10 +206,14 @@ module _ (image : List ℕ) (bytes : T (areBytes image)) where
         };
       })
 
-  chosen-inv : 0 < n → (c : Chosen) → Right (headerAt 2 image) n c → openOf image .log ≡ logFrom (regionChosen image c) → Inv image (logFrom (regionChosen image c))
-  chosen-inv h Nothing r o = inv-of n image Unformatted 1 [] (record { sized = refl; bytes = bytes; numbered = omega arith; most = omega arith; proper = proper-none; found = (refl, h, r) })
+  chosen-inv : 0 < n → (c : Chosen) → Right (headerAt 2 image) n c → openOf image .log ≡ logFrom (regionChosen image c)
+      → Inv image (logFrom (regionChosen image c))
+  chosen-inv h Nothing r o =
+      inv-of n image Unformatted 1 []
+      (record { sized = refl; bytes = bytes; numbered = omega arith; most = omega arith; proper = proper-none; found = (refl, h, r) })
   chosen-inv h (Sector s seq) w o =
-      read-inv s seq w (recordsIn seq (slotAt image s)) refl (read-proper seq (slotAt image s) (λ k. slot-bytes image bytes s k) 255 1 (these []) proper-none) o
+      read-inv s seq w (recordsIn seq (slotAt image s)) refl
+      (read-proper seq (slotAt image s) (λ k. slot-bytes image bytes s k) 255 1 (these []) proper-none) o
 
   pub open-inv : Inv image (openOf image .log)
   open-inv = go (eqb n 0) refl

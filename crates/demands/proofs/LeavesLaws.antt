@@ -67,7 +67,8 @@ module _ (n a lo hi : ℕ) where
     same = λ z i u o. go z i u o (m .2);
   }
     where
-      go : Fits n (f .image) → (i : ℕ) → i < 256 → (i < lo) ⊎ (hi ≤ i) → (s ≡ a → ⊥) ⊎ ((s ≡ a) × (lo ≤ k) × (k < hi)) → slotAt (program s k new f .flash .image) a i ≡ slotAt (f .image) a i
+      go : Fits n (f .image) → (i : ℕ) → i < 256 → (i < lo) ⊎ (hi ≤ i) → (s ≡ a → ⊥) ⊎ ((s ≡ a) × (lo ≤ k) × (k < hi))
+          → slotAt (program s k new f .flash .image) a i ≡ slotAt (f .image) a i
       go z i u o (inl apart) = program-apart s k new f n z (m .0) (m .1) a i (λ e. apart (sym e)) u
       go z i u o (inr here) =
           ap (λ (x : ℕ). slotAt (program s k new f .flash .image) x i) (sym (here .0))
@@ -85,9 +86,11 @@ module _ (n a lo hi : ℕ) where
   }
 
 -- of the active sector an append changes the three slots from head on at most
-pub append-keeps : (n s seq head next : ℕ) (r : Raw) (t : List Raw) (f : Flash) → s < n → head ≤ 256 → length t < 256 → Keeps n s head (head + 3) f (appendOf n s seq head next r t f .flash)
+pub append-keeps : (n s seq head next : ℕ) (r : Raw) (t : List Raw) (f : Flash) → s < n → head ≤ 256 → length t < 256
+    → Keeps n s head (head + 3) f (appendOf n s seq head next r t f .flash)
 append-keeps n s seq head next r t f within high few =
-    append-trace (Keeps n s head (head + 3)) (keeps-none n s head (head + 3)) (keeps-on n s head (head + 3)) (Slot n s head (head + 3)) (Sector n s head (head + 3)) (program-keeps n s head (head + 3)) (erase-keeps n s head (head + 3))
+    append-trace (Keeps n s head (head + 3)) (keeps-none n s head (head + 3)) (keeps-on n s head (head + 3)) (Slot n s head (head + 3))
+    (Sector n s head (head + 3)) (program-keeps n s head (head + 3)) (erase-keeps n s head (head + 3))
     n s seq head next r t f within high
     (λ i l u z. (within, z, inr (refl, l, u)))
     (λ x u z. (u, z))
@@ -95,7 +98,8 @@ append-keeps n s seq head next r t f within high few =
 
 -- ---- states
 -- a commit that failed leaves the state
-pub commit-state : (m n a s : ℕ) (t : List Raw) (last : Answer) (state : State) (next : ℕ) (f : Flash) → Fails last → Fails (commitFrom m n a s t last state next f .answer) → commitFrom m n a s t last state next f .state ≡ state
+pub commit-state : (m n a s : ℕ) (t : List Raw) (last : Answer) (state : State) (next : ℕ) (f : Flash) → Fails last
+    → Fails (commitFrom m n a s t last state next f .answer) → commitFrom m n a s t last state next f .state ≡ state
 unfolding commitFrom
 commit-state zero n a s t last state next f h = λ e. refl
 commit-state (suc m) n a s t last state next f h =
@@ -108,8 +112,10 @@ commit-state (suc m) n a s t last state next f h =
     P w = Fails (w .answer) → w .state ≡ state
 
 -- tries that failed end at the slot behind the last one tried, or at the end of the sector
-tries-head : (m s head : ℕ) (bytes : List ℕ) (last : Answer) (f : Flash) → (triesFrom m s head bytes last f .full ≡ true → triesFrom m s head bytes last f .head ≡ 256)
-    × (triesFrom m s head bytes last f .full ≡ false → Fails (triesFrom m s head bytes last f .answer) → triesFrom m s head bytes last f .head ≡ head + m)
+tries-head : (m s head : ℕ) (bytes : List ℕ) (last : Answer) (f : Flash)
+    → (triesFrom m s head bytes last f .full ≡ true → triesFrom m s head bytes last f .head ≡ 256)
+    × (triesFrom m s head bytes last f .full ≡ false → Fails (triesFrom m s head bytes last f .answer)
+    → triesFrom m s head bytes last f .head ≡ head + m)
 unfolding triesFrom
 tries-head zero s head bytes last f = ((λ e. absurd (false≢true e)), (λ e d. omega arith))
 tries-head (suc m) s head bytes last f =
@@ -128,16 +134,26 @@ pub record HeadMoved (s seq head : ℕ) (state : State) : Type 0 where
   pub state-is : state ≡ Active s seq head-now
   pub past : (head-now ≡ 256) ⊎ (head-now ≡ head + 3)
 
-pub append-state : (n s seq head next : ℕ) (r : Raw) (t : List Raw) (f : Flash) → Fails (appendOf n s seq head next r t f .answer) → HeadMoved s seq head (appendOf n s seq head next r t f .state)
+pub append-state : (n s seq head next : ℕ) (r : Raw) (t : List Raw) (f : Flash) → Fails (appendOf n s seq head next r t f .answer)
+    → HeadMoved s seq head (appendOf n s seq head next r t f .state)
 unfolding appendOf
 append-state n s seq head next r t f = go (triesFrom 3 s head (slotOf seq r) WriteError f) (tries-head 3 s head (slotOf seq r) WriteError f)
   where
     go : (o : SlotTries) → (o .full ≡ true → o .head ≡ 256) × (o .full ≡ false → Fails (o .answer) → o .head ≡ head + 3)
-        → Fails (pick (o .full) (commitAfter n s t (Active s seq (o .head)) next (o .flash)) (record { answer = o .answer; state = Active s seq (o .head); next = next; flash = o .flash }) .answer)
-        → HeadMoved s seq head (pick (o .full) (commitAfter n s t (Active s seq (o .head)) next (o .flash)) (record { answer = o .answer; state = Active s seq (o .head); next = next; flash = o .flash }) .state)
+        → Fails
+        (pick (o .full) (commitAfter n s t (Active s seq (o .head)) next (o .flash))
+        (record { answer = o .answer; state = Active s seq (o .head); next = next; flash = o .flash }) .answer)
+        → HeadMoved s seq head
+        (pick (o .full) (commitAfter n s t (Active s seq (o .head)) next (o .flash))
+        (record { answer = o .answer; state = Active s seq (o .head); next = next; flash = o .flash }) .state)
     go o h =
         by-test (λ (w : Written). Fails (w .answer) → HeadMoved s seq head (w .state)) (o .full) _ _
-        (λ e d. record { head-now = o .head; state-is = commit-state n n s (sectorAfter n s) t WriteError (Active s seq (o .head)) next (o .flash) refl d; past = inl (h .0 e) })
+        (λ e d.
+        record {
+          head-now = o .head;
+          state-is = commit-state n n s (sectorAfter n s) t WriteError (Active s seq (o .head)) next (o .flash) refl d;
+          past = inl (h .0 e);
+        })
         (λ e d. record { head-now = o .head; state-is = refl; past = inr (h .1 e d) })
 
 -- ---- calls
@@ -163,7 +179,8 @@ module _ (image : List ℕ) (log : Log) (plan : Plan) where
   failed-table w value new old e = ap (λ (b : Bool). recordsOf (logOf (w .state) (w .next) (pick b new old))) e ∙ places-take old
 
   append-spares : logFits n log ≡ true → (s seq head : ℕ) → log .state ≡ Active s seq head → (r : Raw) (value : ℕ) → hasRoom limit r t ≡ true
-      → Fails (appendOf n s seq head (log .«next_seq») r (joined r t) f .answer) → Spares s seq head image (writtenOutcome (appendOf n s seq head (log .«next_seq») r (joined r t) f) value (joined r t) t)
+      → Fails (appendOf n s seq head (log .«next_seq») r (joined r t) f .answer)
+      → Spares s seq head image (writtenOutcome (appendOf n s seq head (log .«next_seq») r (joined r t) f) value (joined r t) t)
   append-spares fits s seq head e r value room failed =
       let placed = fits-active n log fits s seq head e in
       let tried = append-state n s seq head (log .«next_seq») r (joined r t) f failed in
@@ -171,7 +188,11 @@ module _ (image : List ℕ) (log : Log) (plan : Plan) where
       let few = join-few r t room held in
       let kept = append-keeps n s seq head (log .«next_seq») r (joined r t) f (placed .within) (placed .high) (omega arith) in
       let size = sectors-whole (length image) (omega (arith, placed .within)) in
-      record { head-now = tried .head-now; state-is = tried .state-is; bytes = λ i u o. kept .same size i u (outside (tried .head-now) i u (tried .past) o) }
+      record {
+        head-now = tried .head-now;
+        state-is = tried .state-is;
+        bytes = λ i u o. kept .same size i u (outside (tried .head-now) i u (tried .past) o);
+      }
     where
       outside : (now i : ℕ) → i < 256 → (now ≡ 256) ⊎ (now ≡ head + 3) → (i < head) ⊎ (now ≤ i) → (i < head) ⊎ (head + 3 ≤ i)
       outside now i u p (inl l) = inl l
@@ -185,7 +206,9 @@ module _ (image : List ℕ) (log : Log) (plan : Plan) where
     table = failed-table (appendOf n s seq head (log .«next_seq») r (joined r t) f) value (joined r t) t e;
     sector = λ x q h y.
         let same = active-same s seq head x q h z y in
-        subst (λ (b : ℕ). Spares b q h image o) (same .0) (subst (λ (b : ℕ). Spares s b h image o) (same .1) (subst (λ (b : ℕ). Spares s seq b image o) (same .2) (append-spares fits s seq head z r value room e)));
+        subst (λ (b : ℕ). Spares b q h image o) (same .0)
+        (subst (λ (b : ℕ). Spares s b h image o) (same .1)
+        (subst (λ (b : ℕ). Spares s seq b image o) (same .2) (append-spares fits s seq head z r value room e)));
   }
   course-leaves o (formats fits some z new few) e = record {
     table = failed-table (commitFirst n new Unformatted (log .«next_seq») f) 0 new [] e ∙ sym (fits-unformatted n log fits z);

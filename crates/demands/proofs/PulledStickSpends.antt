@@ -57,7 +57,8 @@ module _ (r : Raw) where
   join-own [] = ap (λ (b : Bool). b || false) (own-key r)
   join-own (e ∷ es) = go (join-own es) (sameKey e r) refl
     where
-      go : holds (r .tag) (r .id) (joined r es) ≡ true → (b : Bool) → sameKey e r ≡ b → holds (r .tag) (r .id) (pick b (r ∷ es) (e ∷ joined r es)) ≡ true
+      go : holds (r .tag) (r .id) (joined r es) ≡ true → (b : Bool) → sameKey e r ≡ b
+          → holds (r .tag) (r .id) (pick b (r ∷ es) (e ∷ joined r es)) ≡ true
       go ih true k = ap (λ (b : Bool). b || holds (r .tag) (r .id) es) (own-key r)
       go ih false k = ap (λ (b : Bool). b || holds (r .tag) (r .id) (joined r es)) k ∙ ih
 
@@ -73,20 +74,25 @@ module _ (r : Raw) where
 
   pub join-held : (t : List Raw) → heldOf (r .tag) (r .id) (joined r t) ≡ some r
   unfolding heldOf
-  join-held t = ap (λ (b : Bool). pick b (some (getD (joined r t) (placeOf (r .tag) (r .id) (joined r t)) noRaw)) none) (join-own t) ∙ ap some (join-at t)
+  join-held t =
+      ap (λ (b : Bool). pick b (some (getD (joined r t) (placeOf (r .tag) (r .id) (joined r t)) noRaw)) none) (join-own t)
+      ∙ ap some (join-at t)
 
 -- ---- and what is held of another key stays
 module _ (r : Raw) (tag id : ℕ) (apart : hasKey tag id r ≡ false) where
   same-apart : (e : Raw) → sameKey e r ≡ true → hasKey tag id e ≡ false
   same-apart e k =
-      ap₂ (λ (a b : ℕ). eqb a tag && eqb b id) (eqb-true (e .tag) (r .tag) (first (eqb (e .tag) (r .tag)) (eqb (e .id) (r .id)) k)) (eqb-true (e .id) (r .id) (second (eqb (e .tag) (r .tag)) (eqb (e .id) (r .id)) k)) ∙ apart
+      ap₂ (λ (a b : ℕ). eqb a tag && eqb b id) (eqb-true (e .tag) (r .tag) (first (eqb (e .tag) (r .tag)) (eqb (e .id) (r .id)) k))
+      (eqb-true (e .id) (r .id) (second (eqb (e .tag) (r .tag)) (eqb (e .id) (r .id)) k))
+      ∙ apart
 
   holds-other : (t : List Raw) → holds tag id (joined r t) ≡ holds tag id t
   unfolding joined holds
   holds-other [] = ap (λ (b : Bool). b || false) apart
   holds-other (e ∷ es) = go (holds-other es) (sameKey e r) refl
     where
-      go : holds tag id (joined r es) ≡ holds tag id es → (b : Bool) → sameKey e r ≡ b → holds tag id (pick b (r ∷ es) (e ∷ joined r es)) ≡ hasKey tag id e || holds tag id es
+      go : holds tag id (joined r es) ≡ holds tag id es → (b : Bool) → sameKey e r ≡ b
+          → holds tag id (pick b (r ∷ es) (e ∷ joined r es)) ≡ hasKey tag id e || holds tag id es
       go ih true k = ap (λ (b : Bool). b || holds tag id es) (apart ∙ sym (same-apart e k))
       go ih false k = ap (λ (b : Bool). hasKey tag id e || b) ih
 
@@ -101,7 +107,8 @@ module _ (r : Raw) (tag id : ℕ) (apart : hasKey tag id r ≡ false) where
       later ih false = ih
 
       go : getD (joined r es) (placeOf tag id (joined r es)) noRaw ≡ getD es (placeOf tag id es) noRaw → (b : Bool) → sameKey e r ≡ b
-          → getD (pick b (r ∷ es) (e ∷ joined r es)) (placeOf tag id (pick b (r ∷ es) (e ∷ joined r es))) noRaw ≡ getD (e ∷ es) (pick (hasKey tag id e) 0 (suc (placeOf tag id es))) noRaw
+          → getD (pick b (r ∷ es) (e ∷ joined r es)) (placeOf tag id (pick b (r ∷ es) (e ∷ joined r es))) noRaw
+          ≡ getD (e ∷ es) (pick (hasKey tag id e) 0 (suc (placeOf tag id es))) noRaw
       go ih true k =
           ap (λ (b : Bool). getD (r ∷ es) (pick b 0 (suc (placeOf tag id es))) noRaw) apart
           ∙ sym (ap (λ (b : Bool). getD (e ∷ es) (pick b 0 (suc (placeOf tag id es))) noRaw) (same-apart e k))
@@ -120,7 +127,8 @@ recordsIn (holding t) = t
 pub shown-records : (image : List ℕ) (log : Log) → Inv image log → recordsOf log ≡ recordsIn (tableOf log)
 shown-records image log i = go (log .state) (i .agrees .found)
   where
-    go : (z : State) → Found z (sectorsIn (length image)) image (log .«next_seq») (recordsOf log) → recordsOf log ≡ recordsIn (tableIn (seenBy z (recordsOf log)))
+    go : (z : State) → Found z (sectorsIn (length image)) image (log .«next_seq») (recordsOf log)
+        → recordsOf log ≡ recordsIn (tableIn (seenBy z (recordsOf log)))
     go Unformatted f = f .0
     go Failed f = f .0
     go (Active sector seq head) f = refl
@@ -150,27 +158,52 @@ module _ (credential current : ℕ) where
     unfolding spendFrom failedOf
     spend-writes = go (eqb (remainingOf s) 0) refl
       where
-        go : (b : Bool) → eqb (remainingOf s) 0 ≡ b → pick b (give 0) (spentBy (roomFor counterTag credential t) credential (remainingOf s) (pick (eqb (s .total) totalMax) (next.Refused WriteError) (next.State (oneMore s)))) .write ≡ true
-            → (0 < remainingOf s) × (pick b (give 0) (spentBy (roomFor counterTag credential t) credential (remainingOf s) (pick (eqb (s .total) totalMax) (next.Refused WriteError) (next.State (oneMore s)))) .rec ≡ counterRecord credential (oneMore s))
+        go : (b : Bool) → eqb (remainingOf s) 0 ≡ b
+            → pick b (give 0)
+            (spentBy (roomFor counterTag credential t) credential (remainingOf s)
+            (pick (eqb (s .total) totalMax) (next.Refused WriteError) (next.State (oneMore s))))
+            .write
+            ≡ true
+            → (0 < remainingOf s)
+            × (pick b (give 0)
+            (spentBy (roomFor counterTag credential t) credential (remainingOf s)
+            (pick (eqb (s .total) totalMax) (next.Refused WriteError) (next.State (oneMore s))))
+            .rec
+            ≡ counterRecord credential (oneMore s))
         go true e h = absurd (false≢true h)
         go false e h = (left, by-total (eqb (s .total) totalMax) h)
           where
             left : 0 < remainingOf s
             left = let some-left = eqb-false (remainingOf s) 0 e in omega arith
 
-            by-total : (c : Bool) → spentBy (roomFor counterTag credential t) credential (remainingOf s) (pick c (next.Refused WriteError) (next.State (oneMore s))) .write ≡ true
-                → spentBy (roomFor counterTag credential t) credential (remainingOf s) (pick c (next.Refused WriteError) (next.State (oneMore s))) .rec ≡ counterRecord credential (oneMore s)
+            by-total : (c : Bool)
+                → spentBy (roomFor counterTag credential t) credential (remainingOf s)
+                (pick c (next.Refused WriteError) (next.State (oneMore s))) .write
+                ≡ true
+                → spentBy (roomFor counterTag credential t) credential (remainingOf s)
+                (pick c (next.Refused WriteError) (next.State (oneMore s))) .rec
+                ≡ counterRecord credential (oneMore s)
             by-total true h = absurd (false≢true h)
-            by-total false h = by-test (λ (x : Decision). x .write ≡ true → x .rec ≡ counterRecord credential (oneMore s)) (roomFor counterTag credential t) _ _ (λ _ _. refl) (λ _ k. absurd (false≢true k)) h
+            by-total false h =
+                by-test (λ (x : Decision). x .write ≡ true → x .rec ≡ counterRecord credential (oneMore s))
+                (roomFor counterTag credential t) _ _ (λ _ _. refl) (λ _ k. absurd (false≢true k)) h
 
     pub spend-refuses : 0 < remainingOf s → d .write ≡ false → isDone (d .answer) ≡ false
     unfolding spendFrom failedOf
     spend-refuses h = rw (ne-eqb (remainingOf s) 0 (λ e. omega arith)) (by-total (eqb (s .total) totalMax))
       where
-        by-total : (c : Bool) → spentBy (roomFor counterTag credential t) credential (remainingOf s) (pick c (next.Refused WriteError) (next.State (oneMore s))) .write ≡ false
-            → isDone (spentBy (roomFor counterTag credential t) credential (remainingOf s) (pick c (next.Refused WriteError) (next.State (oneMore s))) .answer) ≡ false
+        by-total : (c : Bool)
+            → spentBy (roomFor counterTag credential t) credential (remainingOf s)
+            (pick c (next.Refused WriteError) (next.State (oneMore s))) .write
+            ≡ false
+            → isDone
+            (spentBy (roomFor counterTag credential t) credential (remainingOf s)
+            (pick c (next.Refused WriteError) (next.State (oneMore s))) .answer)
+            ≡ false
         by-total true h = refl
-        by-total false h = by-test (λ (x : Decision). x .write ≡ false → isDone (x .answer) ≡ false) (roomFor counterTag credential t) _ _ (λ _ k. absurd (false≢true (sym k))) (λ _ _. refl) h
+        by-total false h =
+            by-test (λ (x : Decision). x .write ≡ false → isDone (x .answer) ≡ false) (roomFor counterTag credential t) _ _
+            (λ _ k. absurd (false≢true (sym k))) (λ _ _. refl) h
 
   -- the tries in the table that the decision leads to
   module _ (log : Log) where
@@ -180,7 +213,9 @@ module _ (credential current : ℕ) where
     abbrev made : State → Decision
     made z = whenActive z (d t₀)
 
-    later-tries : (image : List ℕ) → Inv image log → (z : State) → (triesOf (recordsIn (decidedTable (made z) log)) ≡ triesOf t₀) ⊎ (triesOf (recordsIn (decidedTable (made z) log)) + 1 ≡ triesOf t₀)
+    later-tries : (image : List ℕ) → Inv image log → (z : State)
+        → (triesOf (recordsIn (decidedTable (made z) log)) ≡ triesOf t₀)
+        ⊎ (triesOf (recordsIn (decidedTable (made z) log)) + 1 ≡ triesOf t₀)
     later-tries image i z = go (made z .write) refl
       where
         by-write : (y : State) → made y .write ≡ true → triesOf (joined (made y .rec) t₀) + 1 ≡ triesOf t₀
@@ -190,12 +225,15 @@ module _ (credential current : ℕ) where
             let w = spend-writes t₀ e in
             ap (λ (r : Raw). triesOf (joined r t₀) + 1) (w .1) ∙ spent-tries t₀ (w .0)
 
-        go : (b : Bool) → made z .write ≡ b → (triesOf (recordsIn (pick b (holding (joined (made z .rec) t₀)) (tableOf log))) ≡ triesOf t₀) ⊎ (triesOf (recordsIn (pick b (holding (joined (made z .rec) t₀)) (tableOf log))) + 1 ≡ triesOf t₀)
+        go : (b : Bool) → made z .write ≡ b
+            → (triesOf (recordsIn (pick b (holding (joined (made z .rec) t₀)) (tableOf log))) ≡ triesOf t₀)
+            ⊎ (triesOf (recordsIn (pick b (holding (joined (made z .rec) t₀)) (tableOf log))) + 1 ≡ triesOf t₀)
         go true e = inr (by-write z e)
         go false e = inl (ap triesOf (sym (shown-records image log i)))
 
     -- where tries were left and the answer is 0, one is taken
-    taken-tries : (z : State) → 0 < triesOf t₀ → (made z .write ≡ false → isDone (made z .answer) ≡ true) → triesOf (recordsIn (decidedTable (made z) log)) + 1 ≡ triesOf t₀
+    taken-tries : (z : State) → 0 < triesOf t₀ → (made z .write ≡ false → isDone (made z .answer) ≡ true)
+        → triesOf (recordsIn (decidedTable (made z) log)) + 1 ≡ triesOf t₀
     taken-tries Unformatted h e = absurd (false≢true (e refl))
     taken-tries Failed h e = absurd (false≢true (e refl))
     taken-tries (Active sector seq head) h e = go (d t₀ .write) refl
@@ -209,13 +247,28 @@ module _ (image : List ℕ) (log : Log) (plan : Plan) (known : Bool) (tag id : �
   abbrev settled : Decision
   settled = whenActive (log .state) (comes-to (heldOf tag id (recordsOf log)) (roomFor tag id (recordsOf log)))
 
-  pub keyed-answered : isDone (entered image log plan known (decided tag id comes-to) .answer) ≡ true → settled .write ≡ false → isDone (settled .answer) ≡ true
+  pub keyed-answered : isDone (entered image log plan known (decided tag id comes-to) .answer) ≡ true → settled .write ≡ false
+      → isDone (settled .answer) ≡ true
   unfolding entered performed
   keyed-answered e k = go (isDone (entryAnswer (sectorsIn (length image)) log known)) e refl
     where
-      go : (b : Bool) → isDone (pick b (performed settled (sectorsIn (length image)) log (flashOf image plan)) (refused (entryAnswer (sectorsIn (length image)) log known) log (flashOf image plan)) .answer) ≡ true
+      go : (b : Bool)
+          → isDone
+          (pick b (performed settled (sectorsIn (length image)) log (flashOf image plan))
+          (refused (entryAnswer (sectorsIn (length image)) log known) log (flashOf image plan)) .answer)
+          ≡ true
           → isDone (entryAnswer (sectorsIn (length image)) log known) ≡ b → isDone (settled .answer) ≡ true
-      go true e z = sym (ap (λ (x : Bool). isDone (pick x (appended (log .state) (sectorsIn (length image)) (settled .rec) (settled .value) log (flashOf image plan)) (record { answer = settled .answer; value = settled .value; log = log; flash = flashOf image plan }) .answer)) k) ∙ e
+      go true e z =
+          sym
+          (ap
+          (λ (x : Bool).
+          isDone
+          (pick x
+          (appended (log .state) (sectorsIn (length image)) (settled .rec) (settled .value) log (flashOf image plan))
+          (record { answer = settled .answer; value = settled .value; log = log; flash = flashOf image plan })
+          .answer))
+          k)
+          ∙ e
       go false e z = absurd (false≢true (sym z ∙ e))
 
 -- ---- the call
@@ -235,7 +288,8 @@ module _ (w : World) (i : Inv (w .image) (w .log)) (credential current : ℕ) (f
   safe : SafeCall (sectorsIn (length (w .image))) (Unmatched (log .state) r) (λ z. z ≡ seen log) (decidedTable decided-on log) o
   unfolding spendOf
   safe =
-      keyed-decided (w .image) log i (isCredential credential) counterTag credential (λ (held : OptRaw) (room : Bool). spendDecision held room credential current)
+      keyed-decided (w .image) log i (isCredential credential) counterTag credential
+      (λ (held : OptRaw) (room : Bool). spendDecision held room credential current)
       (λ t. counterRecord credential (oneMore (startOf (heldOf counterTag credential t) current))) (spend-sound credential current fits small) plan
 
   module _ (x : Log) (j : Inv (o .flash .image) x) where
@@ -245,16 +299,22 @@ module _ (w : World) (i : Inv (w .image) (w .log)) (credential current : ℕ) (f
     -- reopening finds the tries of a log that agrees with the image
     found-tries : (later : Table) → tableOf x ≡ later → triesIn credential current again ≡ triesOf credential current (recordsIn later)
     found-tries later e =
-        ap (triesOf credential current) (shown-records (o .flash .image) again (open-inv (o .flash .image) (j .agrees .bytes)) ∙ ap recordsIn (ap tableIn (inv-open (o .flash .image) x j .0) ∙ e))
+        ap (triesOf credential current)
+        (shown-records (o .flash .image) again (open-inv (o .flash .image) (j .agrees .bytes))
+        ∙ ap recordsIn (ap tableIn (inv-open (o .flash .image) x j .0) ∙ e))
 
     before-tries : seen x ≡ seen log → triesIn credential current again ≡ triesIn credential current log
     before-tries e = found-tries (tableOf log) (ap tableIn e) ∙ ap (triesOf credential current) (sym (shown-records (w .image) log i))
 
-    later-either : tableOf x ≡ decidedTable decided-on log → (triesIn credential current again ≡ triesIn credential current log) ⊎ (triesIn credential current again + 1 ≡ triesIn credential current log)
+    later-either : tableOf x ≡ decidedTable decided-on log
+        → (triesIn credential current again ≡ triesIn credential current log)
+        ⊎ (triesIn credential current again + 1 ≡ triesIn credential current log)
     later-either e = go (later-tries credential current log (w .image) i (log .state))
       where
-        go : (triesOf credential current (recordsIn (decidedTable decided-on log)) ≡ triesOf credential current (recordsOf log)) ⊎ (triesOf credential current (recordsIn (decidedTable decided-on log)) + 1 ≡ triesOf credential current (recordsOf log))
-            → (triesIn credential current again ≡ triesIn credential current log) ⊎ (triesIn credential current again + 1 ≡ triesIn credential current log)
+        go : (triesOf credential current (recordsIn (decidedTable decided-on log)) ≡ triesOf credential current (recordsOf log))
+            ⊎ (triesOf credential current (recordsIn (decidedTable decided-on log)) + 1 ≡ triesOf credential current (recordsOf log))
+            → (triesIn credential current again ≡ triesIn credential current log)
+            ⊎ (triesIn credential current again + 1 ≡ triesIn credential current log)
         go (inl k) = inl (found-tries (decidedTable decided-on log) e ∙ k)
         go (inr k) = inr (ap (λ (m : ℕ). m + 1) (found-tries (decidedTable decided-on log) e) ∙ k)
 
@@ -262,10 +322,16 @@ module _ (w : World) (i : Inv (w .image) (w .log)) (credential current : ℕ) (f
   unfolding spendOf
   spend-keeps = go safe
     where
-      go : SafeCall (sectorsIn (length (w .image))) (Unmatched (log .state) r) (λ z. z ≡ seen log) (decidedTable decided-on log) o → KeepsTries w credential current plan
+      go : SafeCall (sectorsIn (length (w .image))) (Unmatched (log .state) r) (λ z. z ≡ seen log) (decidedTable decided-on log) o
+          → KeepsTries w credential current plan
       go (lasted on z j (inl d)) = record {
         either = λ _. later-either (o .log) j (d .1);
-        taken = λ e h. ap (λ (m : ℕ). m + 1) (found-tries (o .log) j (decidedTable decided-on log) (d .1)) ∙ taken-tries credential current log (log .state) h (keyed-answered (w .image) log plan (isCredential credential) counterTag credential (λ (held : OptRaw) (room : Bool). spendDecision held room credential current) e);
+        taken =
+            λ e h.
+            ap (λ (m : ℕ). m + 1) (found-tries (o .log) j (decidedTable decided-on log) (d .1))
+            ∙ taken-tries credential current log (log .state) h
+            (keyed-answered (w .image) log plan (isCredential credential) counterTag credential
+            (λ (held : OptRaw) (room : Bool). spendDecision held room credential current) e);
       }
       go (lasted on z j (inr d)) = record {
         either = λ _. inl (before-tries (o .log) j (d .1));
@@ -277,16 +343,19 @@ module _ (w : World) (i : Inv (w .image) (w .log)) (credential current : ℕ) (f
       }
         where
           wakes : WakesUp (λ z. z ≡ seen log) (decidedTable decided-on log) (o .flash .image)
-              → (triesIn credential current (openOf (o .flash .image) .log) ≡ triesIn credential current log) ⊎ (triesIn credential current (openOf (o .flash .image) .log) + 1 ≡ triesIn credential current log)
+              → (triesIn credential current (openOf (o .flash .image) .log) ≡ triesIn credential current log)
+              ⊎ (triesIn credential current (openOf (o .flash .image) .log) + 1 ≡ triesIn credential current log)
           wakes v = shown (v .shows)
             where
               shown : (seen (v .log) ≡ seen log) ⊎ (tableOf (v .log) ≡ decidedTable decided-on log)
-                  → (triesIn credential current (openOf (o .flash .image) .log) ≡ triesIn credential current log) ⊎ (triesIn credential current (openOf (o .flash .image) .log) + 1 ≡ triesIn credential current log)
+                  → (triesIn credential current (openOf (o .flash .image) .log) ≡ triesIn credential current log)
+                  ⊎ (triesIn credential current (openOf (o .flash .image) .log) + 1 ≡ triesIn credential current log)
               shown (inl a) = inl (before-tries (v .log) (v .inv) a)
               shown (inr a) = later-either (v .log) (v .inv) a
 
 -- in any session, and whatever the plan of the spend
-pub pulled-stick : (image : List ℕ) → T (areBytes image) → (ms : List Made) → AllTyped ms → Lasts ms (opened image) → (credential current : ℕ) → credential < 256 → current < 256 → (plan : Plan)
+pub pulled-stick : (image : List ℕ) → T (areBytes image) → (ms : List Made) → AllTyped ms → Lasts ms (opened image)
+    → (credential current : ℕ) → credential < 256 → current < 256 → (plan : Plan)
     → KeepsTries (played ms (opened image)) credential current plan
 pulled-stick image bytes ms typed lasts credential current fits small plan =
     spend-keeps (played ms (opened image)) (played-agrees ms (opened image) (open-inv image bytes) typed lasts) credential current fits small plan

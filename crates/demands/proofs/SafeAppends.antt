@@ -46,7 +46,8 @@ use Rattle.demands.proofs.SafeCommits.{agrees-few, agrees-size, Wakes, 
 
 -- ---- head moves on
 -- the sector's number was read from four bytes
-seq-fits : (n : ℕ) (image : List ℕ) (size : Fits n image) (bytes : T (areBytes image)) (s seq head next : ℕ) (t : List Raw) → Standing n image s seq head next t → seq < 2 ^ 32
+seq-fits : (n : ℕ) (image : List ℕ) (size : Fits n image) (bytes : T (areBytes image)) (s seq head next : ℕ) (t : List Raw)
+    → Standing n image s seq head next t → seq < 2 ^ 32
 seq-fits n image size bytes s seq head next t g =
     let slot = slotAt image s 0 in
     let headed = header-sealed 2 slot seq (g .wins .own) in
@@ -56,7 +57,8 @@ seq-fits n image size bytes s seq head next t g =
 
 module _ (n : ℕ) (image : List ℕ) (s seq head next : ℕ) (old : List Raw) (g : Standing n image s seq head next old) (room : head < 256) where
   -- only the slot at head changed, and it makes of the table what it reads as
-  standing-on : (left : List ℕ) (new : List Raw) → ((y i : ℕ) → (y ≡ s → ⊥) → i < 256 → slotAt left y i ≡ slotAt image y i) → ((i : ℕ) → (i ≡ head → ⊥) → slotAt left s i ≡ slotAt image s i)
+  standing-on : (left : List ℕ) (new : List Raw) → ((y i : ℕ) → (y ≡ s → ⊥) → i < 256 → slotAt left y i ≡ slotAt image y i)
+      → ((i : ℕ) → (i ≡ head → ⊥) → slotAt left s i ≡ slotAt image s i)
       → reading seq (slotAt left s head) (these old) ≡ these new → Standing n left s seq (head + 1) next new
   standing-on left new away beside reads = record {
     placed = record { within = g .placed .within; low = omega arith; high = omega arith; later = g .placed .later };
@@ -68,7 +70,8 @@ module _ (n : ℕ) (image : List ℕ) (s seq head next : ℕ) (old : List Raw) (
         ap (λ (m : ℕ). readFrom m 1 seq (slotAt left s) (these [])) more
         ∙ read-last seq (slotAt left s) (head - 1) 1 (these [])
         ∙ ap (λ (k : ℕ). reading seq (slotAt left s k) (readFrom (head - 1) 1 seq (slotAt left s) (these []))) here
-        ∙ ap (reading seq (slotAt left s head)) (read-same (slotAt left s) (slotAt image s) seq (head - 1) 1 (these []) (λ i l u. beside i (λ z. omega arith)) ∙ g .reads)
+        ∙ ap (reading seq (slotAt left s head))
+        (read-same (slotAt left s) (slotAt image s) seq (head - 1) 1 (these []) (λ i l u. beside i (λ z. omega arith)) ∙ g .reads)
         ∙ reads;
   }
     where
@@ -76,7 +79,11 @@ module _ (n : ℕ) (image : List ℕ) (s seq head next : ℕ) (old : List Raw) (
       headers y = ap (headerOf 2) (go (eqb y s) refl)
         where
           go : (b : Bool) → eqb y s ≡ b → slotAt left y 0 ≡ slotAt image y 0
-          go true e = let here = eqb-true y s e in ap (λ (x : ℕ). slotAt left x 0) here ∙ beside 0 (λ z. omega (arith, g .placed .low)) ∙ ap (λ (x : ℕ). slotAt image x 0) (sym here)
+          go true e =
+              let here = eqb-true y s e in
+              ap (λ (x : ℕ). slotAt left x 0) here
+              ∙ beside 0 (λ z. omega (arith, g .placed .low))
+              ∙ ap (λ (x : ℕ). slotAt image x 0) (sym here)
           go false e = away y 0 (eqb-false y s e) (omega arith)
 
   -- past a slot that stays erased
@@ -116,7 +123,8 @@ module _ (n s seq : ℕ) (r : Raw) (old : List Raw) (w : Writable r old) (next :
     }
 
     -- sixteen bytes at head, which make t of the table
-    here-put : (bytes : List ℕ) → length bytes ≡ 16 → T (areBytes bytes) → (left : List ℕ) → left ≡ withSlot s head bytes image → (t : List Raw) → Proper t
+    here-put : (bytes : List ℕ) → length bytes ≡ 16 → T (areBytes bytes) → (left : List ℕ) → left ≡ withSlot s head bytes image
+        → (t : List Raw) → Proper t
         → reading seq bytes (these old) ≡ these t → Here left (head + 1) t
     here-put bytes sixteen fine left is t p reads =
         let within = g .found .placed .within in
@@ -130,25 +138,34 @@ module _ (n s seq : ℕ) (r : Raw) (old : List Raw) (w : Writable r old) (next :
           found =
               standing-on n image s seq head next old (g .found) room left t (b .away)
               (λ i z. ap (λ (l : List ℕ). slotAt l s i) is ∙ with-slot-beside n image size s within head room bytes sixteen i z)
-              (ap (λ (l : List ℕ). reading seq l (these old)) (ap (λ (l : List ℕ). slotAt l s head) is ∙ with-slot-here n image size s within head room bytes sixteen) ∙ reads);
+              (ap (λ (l : List ℕ). reading seq l (these old))
+              (ap (λ (l : List ℕ). slotAt l s head) is ∙ with-slot-here n image size s within head room bytes sixteen)
+              ∙ reads);
         }
 
     here-whole : (left : List ℕ) → left ≡ withSlot s head slot image → Here left (head + 1) new
-    here-whole left is = here-put slot (slot-sixteen seq fits r (w .whole)) (slot-bytes seq fits r (w .whole)) left is new proper-new (slot-written seq r old w)
+    here-whole left is =
+        here-put slot (slot-sixteen seq fits r (w .whole)) (slot-bytes seq fits r (w .whole)) left is new proper-new
+        (slot-written seq r old w)
 
     -- a record that was cut is none or whole, but for the chance match
-    here-cut : (low : ℕ) → low ≤ head → (k : ℕ) → k < 16 → (left : List ℕ) → left ≡ withSlot s head (cutAt k slot) image → Unmatched (Active s seq low) r left → (Here left (head + 1) old) ⊎ (Here left (head + 1) new)
+    here-cut : (low : ℕ) → low ≤ head → (k : ℕ) → k < 16 → (left : List ℕ) → left ≡ withSlot s head (cutAt k slot) image
+        → Unmatched (Active s seq low) r left → (Here left (head + 1) old) ⊎ (Here left (head + 1) new)
     here-cut low under k h left is lucky = go (cut-record seq fits r (w .whole) k (omega arith) unlucky)
       where
         unlucky : (m : ChanceMatch seq slot) → m .k ≡ k → ⊥
         unlucky m e =
             let sixteen = cut-length slot (slot-sixteen seq fits r (w .whole)) k (omega arith) in
-            lucky head under room m (ap (λ (l : List ℕ). slotAt l s head) is ∙ with-slot-here n image size s (g .found .placed .within) head room (cutAt k slot) sixteen ∙ ap (λ (j : ℕ). cutAt j slot) (sym e))
+            lucky head under room m
+            (ap (λ (l : List ℕ). slotAt l s head) is
+            ∙ with-slot-here n image size s (g .found .placed .within) head room (cutAt k slot) sixteen
+            ∙ ap (λ (j : ℕ). cutAt j slot) (sym e))
 
         go : (decoded seq (cutAt k slot) ≡ none) ⊎ (cutAt k slot ≡ slot) → (Here left (head + 1) old) ⊎ (Here left (head + 1) new)
         go (inl e) =
             let sixteen = slot-sixteen seq fits r (w .whole) in
-            inl (here-put (cutAt k slot) (cut-length slot sixteen k (omega arith)) (cut-bytes slot sixteen k (omega arith) (slot-bytes seq fits r (w .whole))) left is old (g .proper)
+            inl
+            (here-put (cutAt k slot) (cut-length slot sixteen k (omega arith)) (cut-bytes slot sixteen k (omega arith) (slot-bytes seq fits r (w .whole))) left is old (g .proper)
             (slot-none seq (cutAt k slot) (these old) e))
         go (inr e) = inr (here-whole left (is ∙ ap (λ (l : List ℕ). withSlot s head l image) e))
 
@@ -186,17 +203,23 @@ module _ (n s seq : ℕ) (r : Raw) (old : List Raw) (w : Writable r old) (next :
         → (o .flash .cut ≡ false → Here (o .flash .image) (head + 1) old → Fails (o .answer) → Attempted rest)
         → (Cut (o .flash) → Fails (o .answer) → StillTried (o .flash) rest)
         → Attempted (pick (isDone (o .answer)) (record { full = false; answer = Done; head = head + 1; flash = o .flash }) rest)
-    one-try head f o rest h under g (Ran.refused i e c is) on still = rw e (on c (subst (λ (l : List ℕ). Here l (head + 1) old) (sym is) (here-past (f .image) head g h)) e)
+    one-try head f o rest h under g (Ran.refused i e c is) on still =
+        rw e (on c (subst (λ (l : List ℕ). Here l (head + 1) old) (sym is) (here-past (f .image) head g h)) e)
     one-try head f o rest h under g (Ran.done i e c is u) on still = rw e (written refl refl c (here-whole (f .image) head g h (o .flash .image) is))
     one-try head f o rest h under g (Ran.stopped i e c k l is) on still =
         let z = still c e in
-        rw e (cut (z .fails) (z .cut) (λ lucky. subst Woken (sym (z .same)) (go (here-cut (f .image) head g h low under k l (o .flash .image) is (subst Lucky (z .same) lucky)))))
+        rw e
+        (cut (z .fails) (z .cut)
+        (λ lucky.
+        subst Woken (sym (z .same))
+        (go (here-cut (f .image) head g h low under k l (o .flash .image) is (subst Lucky (z .same) lucky)))))
       where
         go : (Here (o .flash .image) (head + 1) old) ⊎ (Here (o .flash .image) (head + 1) new) → Woken (o .flash .image)
         go (inl a) = record { state = Active s seq (head + 1); next = next; t = old; agrees = a; shows = inl p }
         go (inr a) = record { state = Active s seq (head + 1); next = next; t = new; agrees = a; shows = inr refl }
 
-    tries-attempted : (m head : ℕ) (last : Answer) (f : Flash) → low ≤ head → f .cut ≡ false → Fails last → Here (f .image) head old → Attempted (triesFrom m s head slot last f)
+    tries-attempted : (m head : ℕ) (last : Answer) (f : Flash) → low ≤ head → f .cut ≡ false → Fails last → Here (f .image) head old
+        → Attempted (triesFrom m s head slot last f)
     unfolding triesFrom
     tries-attempted zero head last f under on h g = refused refl h on g
     tries-attempted (suc m) head last f under on h g =
@@ -205,7 +228,8 @@ module _ (n s seq : ℕ) (r : Raw) (old : List Raw) (w : Writable r old) (next :
         let unlike = eqb-false head 256 e in
         let room : head < 256 = omega (arith, g .found .placed .high) in
         one-try head f (program s head slot f) _ room under g
-        (program-ran s head slot f on (g .found .erased head (omega arith) room) (slot-sixteen seq (fits (f .image) head g room) r (w .whole)) (slot-bytes seq (fits (f .image) head g room) r (w .whole)))
+        (program-ran s head slot f on (g .found .erased head (omega arith) room)
+        (slot-sixteen seq (fits (f .image) head g room) r (w .whole)) (slot-bytes seq (fits (f .image) head g room) r (w .whole)))
         (λ c i z. tries-attempted m (head + 1) (program s head slot f .answer) (program s head slot f .flash) (omega arith) c z i)
         (λ c z. tries-still m (head + 1) (program s head slot f .answer) (program s head slot f .flash) c z))
 
@@ -214,9 +238,15 @@ module _ (n s seq : ℕ) (r : Raw) (old : List Raw) (w : Writable r old) (next :
     unfolding appendOf
     append-safe f on g = go (triesFrom 3 s low slot WriteError f) (tries-attempted 3 low WriteError f (omega arith) on refl g)
       where
-        go : (o : SlotTries) → Attempted o → Safe n Lucky P old new (pick (o .full) (commitAfter n s new (Active s seq (o .head)) next (o .flash)) (record { answer = o .answer; state = Active s seq (o .head); next = next; flash = o .flash }))
+        go : (o : SlotTries) → Attempted o
+            → Safe n Lucky P old new
+            (pick (o .full) (commitAfter n s new (Active s seq (o .head)) next (o .flash))
+            (record { answer = o .answer; state = Active s seq (o .head); next = next; flash = o .flash }))
         go o (filled e l c i) =
-            rw e (commit-safe n s Lucky P (Active s seq (o .head)) refl old new (join-proper r old (w .whole) (w .tagged) (w .room) (g .proper)) p n (sectorAfter n s) WriteError next (o .flash) (after-within n s (g .found .placed .within)) c refl i)
+            rw e
+            (commit-safe n s Lucky P (Active s seq (o .head)) refl old new
+            (join-proper r old (w .whole) (w .tagged) (w .room) (g .proper)) p n (sectorAfter n s) WriteError next (o .flash)
+            (after-within n s (g .found .placed .within)) c refl i)
         go o (written e d c i) = rw e (done d c i refl)
         go o (refused e d c i) = rw e (failed d c i p)
         go o (cut d c i) =

@@ -42,7 +42,8 @@ use Rattle.demands.specs.Typed.{TypedAnchor, TypedSeeds}
 use Rattle.demands.specs.Calls.{Call, outcomeOf, Typed, tableAfter, AnchorNoEffect, NoEffect, recordOf, anchorTo, appendsTo}
 use Rattle.demands.proofs.Tables.{Proper, proper-none, Writable}
 use Rattle.demands.proofs.Invariant.{Inv}
-use Rattle.demands.proofs.SafePerforming.{Always, SafeCall, refusal-safe, safe-weaker, WritesRecord, writes-writable, decidedTable, performed-safe, formatted-safe}
+use Rattle.demands.proofs.SafePerforming.{Always, SafeCall, refusal-safe, safe-weaker, WritesRecord, writes-writable, decidedTable}
+use Rattle.demands.proofs.SafePerforming.{performed-safe, formatted-safe}
 use Rattle.demands.proofs.CallsAttaining.{Attains, attained, performed-attains, formatted-attains}
 use Rattle.demands.proofs.SafeFirst.{OrEmpty, first-safe, first-attains}
 use Rattle.demands.proofs.CallsDeciding.{Sound, anchor-writes, anchor-sound, anchor-first-writes, seeded-proper}
@@ -60,16 +61,21 @@ module _ (image : List ℕ) (log : Log) (i : Inv image log) (known : Bool) (call
   run-attains : (later : Table) → (isDone (entryAnswer n log known) ≡ true → Attains image later (call n log)) → Attains image later run
   run-attains later attains = go (isDone (entryAnswer n log known)) refl
     where
-      go : (b : Bool) → isDone (entryAnswer n log known) ≡ b → Attains image later (λ (f : Flash). pick b (call n log f) (refused (entryAnswer n log known) log f))
+      go : (b : Bool) → isDone (entryAnswer n log known) ≡ b
+          → Attains image later (λ (f : Flash). pick b (call n log f) (refused (entryAnswer n log known) log f))
       go true e = attains e
       go false e = inr (λ f. (refl, e))
 
   module _ (C : List ℕ → Type 0) (P : Seen → Type 0) (p : P (seen log)) (plan : Plan) (later : Table) where
-    run-safe : (isDone (entryAnswer n log known) ≡ true → SafeCall n C P later (call n log (flashOf image plan))) → SafeCall n C P later (run (flashOf image plan))
-    run-safe safe = by-test (SafeCall n C P later) (isDone (entryAnswer n log known)) _ _ safe (λ e. refusal-safe C P (refused (entryAnswer n log known) log (flashOf image plan)) refl i p later e)
+    run-safe : (isDone (entryAnswer n log known) ≡ true → SafeCall n C P later (call n log (flashOf image plan)))
+        → SafeCall n C P later (run (flashOf image plan))
+    run-safe safe =
+        by-test (SafeCall n C P later) (isDone (entryAnswer n log known)) _ _ safe
+        (λ e. refusal-safe C P (refused (entryAnswer n log known) log (flashOf image plan)) refl i p later e)
 
     -- a call is safe for the table that it comes to on a healthy flash
-    pub entered-safe : (isDone (entryAnswer n log known) ≡ true → SafeCall n C P later (call n log (flashOf image plan))) → (isDone (entryAnswer n log known) ≡ true → Attains image later (call n log))
+    pub entered-safe : (isDone (entryAnswer n log known) ≡ true → SafeCall n C P later (call n log (flashOf image plan)))
+        → (isDone (entryAnswer n log known) ≡ true → Attains image later (call n log))
         → SafeCall n C P (tableOf (entered image log healthy known call .log)) (entered image log plan known call)
     unfolding entered
     entered-safe safe attains = attained n C P later image plan run (run-attains later attains) (run-safe safe)
@@ -79,29 +85,42 @@ module _ (image : List ℕ) (log : Log) (i : Inv image log) where
   abbrev decision : (tag id : ℕ) → (OptRaw → Bool → Decision) → Decision
   decision tag id d = whenActive (log .state) (d (heldOf tag id (recordsOf log)) (roomFor tag id (recordsOf log)))
 
-  active-writes : (d : Decision) (r : Raw) → (d .write ≡ true → WritesRecord d r (recordsOf log)) → (z : State) → whenActive z d .write ≡ true → WritesRecord (whenActive z d) r (recordsOf log)
+  active-writes : (d : Decision) (r : Raw) → (d .write ≡ true → WritesRecord d r (recordsOf log)) → (z : State)
+      → whenActive z d .write ≡ true → WritesRecord (whenActive z d) r (recordsOf log)
   active-writes d r sound Unformatted e = absurd (false≢true e)
   active-writes d r sound Failed e = absurd (false≢true e)
   active-writes d r sound (Active sector seq head) e = sound e
 
   module _ (known : Bool) (tag id : ℕ) (d : OptRaw → Bool → Decision) (r : List Raw → Raw) (sound : Sound tag id d r) where
     made-writes : decision tag id d .write ≡ true → WritesRecord (decision tag id d) (r (recordsOf log)) (recordsOf log)
-    made-writes = active-writes (d (heldOf tag id (recordsOf log)) (roomFor tag id (recordsOf log))) (r (recordsOf log)) (sound (recordsOf log) (i .agrees .proper .whole)) (log .state)
+    made-writes =
+        active-writes (d (heldOf tag id (recordsOf log)) (roomFor tag id (recordsOf log))) (r (recordsOf log))
+        (sound (recordsOf log) (i .agrees .proper .whole)) (log .state)
 
-    decided-safe : (plan : Plan) → SafeCall (sectorsIn (length image)) (Unmatched (log .state) (r (recordsOf log))) (λ z. z ≡ seen log) (decidedTable (decision tag id d) log) (decided tag id d (sectorsIn (length image)) log (flashOf image plan))
+    decided-safe : (plan : Plan)
+        → SafeCall (sectorsIn (length image)) (Unmatched (log .state) (r (recordsOf log))) (λ z. z ≡ seen log)
+        (decidedTable (decision tag id d) log) (decided tag id d (sectorsIn (length image)) log (flashOf image plan))
     decided-safe plan = performed-safe (flashOf image plan) log refl i (decision tag id d) (r (recordsOf log)) made-writes
 
     -- safe for the table that is decided on
-    pub keyed-decided : (plan : Plan) → SafeCall (sectorsIn (length image)) (Unmatched (log .state) (r (recordsOf log))) (λ z. z ≡ seen log) (decidedTable (decision tag id d) log) (entered image log plan known (decided tag id d))
+    pub keyed-decided : (plan : Plan)
+        → SafeCall (sectorsIn (length image)) (Unmatched (log .state) (r (recordsOf log))) (λ z. z ≡ seen log)
+        (decidedTable (decision tag id d) log) (entered image log plan known (decided tag id d))
     unfolding entered
-    keyed-decided plan = run-safe image log i known (decided tag id d) (Unmatched (log .state) (r (recordsOf log))) (λ z. z ≡ seen log) refl plan (decidedTable (decision tag id d) log) (λ _. decided-safe plan)
+    keyed-decided plan =
+        run-safe image log i known (decided tag id d) (Unmatched (log .state) (r (recordsOf log))) (λ z. z ≡ seen log) refl plan
+        (decidedTable (decision tag id d) log) (λ _. decided-safe plan)
 
     -- and for the table that a healthy flash reaches
     pub keyed-safe : (plan : Plan)
-        → SafeCall (sectorsIn (length image)) (Unmatched (log .state) (r (recordsOf log))) (λ z. z ≡ seen log) (tableOf (entered image log healthy known (decided tag id d) .log)) (entered image log plan known (decided tag id d))
+        → SafeCall (sectorsIn (length image)) (Unmatched (log .state) (r (recordsOf log))) (λ z. z ≡ seen log)
+        (tableOf (entered image log healthy known (decided tag id d) .log)) (entered image log plan known (decided tag id d))
     keyed-safe plan =
-        entered-safe image log i known (decided tag id d) (Unmatched (log .state) (r (recordsOf log))) (λ z. z ≡ seen log) refl plan (decidedTable (decision tag id d) log) (λ _. decided-safe plan)
-        (λ _. performed-attains image log i (decision tag id d) (λ e. writes-writable (decision tag id d) (r (recordsOf log)) (recordsOf log) (made-writes e)))
+        entered-safe image log i known (decided tag id d) (Unmatched (log .state) (r (recordsOf log))) (λ z. z ≡ seen log) refl plan
+        (decidedTable (decision tag id d) log) (λ _. decided-safe plan)
+        (λ _.
+        performed-attains image log i (decision tag id d)
+        (λ e. writes-writable (decision tag id d) (r (recordsOf log)) (recordsOf log) (made-writes e)))
 
   -- ---- format
   typed-take : (k : ℕ) (seeds : List Seed) → TypedSeeds seeds → TypedSeeds (take k seeds)
@@ -117,11 +136,14 @@ module _ (image : List ℕ) (log : Log) (i : Inv image log) where
       seeded-proper (take count seeds) [] (typed-take count seeds typed) (omega arith) proper-none
 
   pub format-safe : (seeds : List Seed) (count : ℕ) → TypedSeeds seeds → (plan : Plan)
-      → SafeCall (sectorsIn (length image)) Always (λ z. z ≡ seen log) (tableOf (formatOf image log healthy seeds count .log)) (formatOf image log plan seeds count)
+      → SafeCall (sectorsIn (length image)) Always (λ z. z ≡ seen log) (tableOf (formatOf image log healthy seeds count .log))
+      (formatOf image log plan seeds count)
   unfolding formatOf
   format-safe seeds count typed plan =
-      entered-safe image log i (seedsKnown seeds count) (λ (n : ℕ) (l : Log) (f : Flash). formatOn (l .state) t n l f) Always (λ z. z ≡ seen log) refl plan (holding t)
-      (λ e. safe (seeds-proper seeds count typed (known e)) (log .state) refl) (λ e. attains (seeds-proper seeds count typed (known e)) (log .state) refl)
+      entered-safe image log i (seedsKnown seeds count) (λ (n : ℕ) (l : Log) (f : Flash). formatOn (l .state) t n l f) Always
+      (λ z. z ≡ seen log) refl plan (holding t)
+      (λ e. safe (seeds-proper seeds count typed (known e)) (log .state) refl)
+      (λ e. attains (seeds-proper seeds count typed (known e)) (log .state) refl)
     where
       t : List Raw
       t = seedTable seeds count
@@ -129,7 +151,9 @@ module _ (image : List ℕ) (log : Log) (i : Inv image log) where
       known : isDone (entryAnswer (sectorsIn (length image)) log (seedsKnown seeds count)) ≡ true → seedsKnown seeds count ≡ true
       known e = let-in-by (sectorsIn (length image)) log (seedsKnown seeds count) e .2
 
-      safe : Proper t → (z : State) → log .state ≡ z → SafeCall (sectorsIn (length image)) Always (λ x. x ≡ seen log) (holding t) (formatOn z t (sectorsIn (length image)) log (flashOf image plan))
+      safe : Proper t → (z : State) → log .state ≡ z
+          → SafeCall (sectorsIn (length image)) Always (λ x. x ≡ seen log) (holding t)
+          (formatOn z t (sectorsIn (length image)) log (flashOf image plan))
       safe proper Unformatted e = formatted-safe (flashOf image plan) log refl i e t proper
       safe proper Failed e = refusal-safe Always (λ x. x ≡ seen log) _ refl i refl (holding t) refl
       safe proper (Active sector seq head) e = refusal-safe Always (λ x. x ≡ seen log) _ refl i refl (holding t) refl
@@ -151,13 +175,20 @@ module _ (image : List ℕ) (log : Log) (i : Inv image log) where
     first-writes : isFirst new ≡ true → (l : Log) → tableOf l ≡ holding [] → (deciding l .write ≡ true) × (deciding l .rec ≡ r)
     first-writes f l e = go (l .state) e
       where
-        made : (t : List Raw) → t ≡ [] → (anchorDecision (heldOf anchorTag 0 t) (roomFor anchorTag 0 t) new .write ≡ true) × (anchorDecision (heldOf anchorTag 0 t) (roomFor anchorTag 0 t) new .rec ≡ r)
+        made : (t : List Raw) → t ≡ []
+            → (anchorDecision (heldOf anchorTag 0 t) (roomFor anchorTag 0 t) new .write ≡ true)
+            × (anchorDecision (heldOf anchorTag 0 t) (roomFor anchorTag 0 t) new .rec ≡ r)
         made t z =
             let zero-seq = eqb-true (new .«head_seq») 0 (first (eqb (new .«head_seq») 0) (eqb (new .«head_slot») 0) f) in
-            subst (λ (x : List Raw). (anchorDecision (heldOf anchorTag 0 x) (roomFor anchorTag 0 x) new .write ≡ true) × (anchorDecision (heldOf anchorTag 0 x) (roomFor anchorTag 0 x) new .rec ≡ r)) (sym z)
+            subst
+            (λ (x : List Raw).
+            (anchorDecision (heldOf anchorTag 0 x) (roomFor anchorTag 0 x) new .write ≡ true)
+            × (anchorDecision (heldOf anchorTag 0 x) (roomFor anchorTag 0 x) new .rec ≡ r))
+            (sym z)
             (anchor-first-writes new (ap isDone (anchor-made new (omega arith))))
 
-        go : (z : State) → tableIn (seenBy z (recordsOf l)) ≡ holding [] → (whenActive z (anchorDecision (heldOf anchorTag 0 (recordsOf l)) (roomFor anchorTag 0 (recordsOf l)) new) .write ≡ true)
+        go : (z : State) → tableIn (seenBy z (recordsOf l)) ≡ holding []
+            → (whenActive z (anchorDecision (heldOf anchorTag 0 (recordsOf l)) (roomFor anchorTag 0 (recordsOf l)) new) .write ≡ true)
             × (whenActive z (anchorDecision (heldOf anchorTag 0 (recordsOf l)) (roomFor anchorTag 0 (recordsOf l)) new) .rec ≡ r)
         go Unformatted z = let never : _≡_ {A = ℕ} 0 1 = cc in absurd (omega arith)
         go Failed z = let never : _≡_ {A = ℕ} 0 1 = cc in absurd (omega arith)
@@ -180,7 +211,9 @@ module _ (image : List ℕ) (log : Log) (i : Inv image log) where
       by z n l f = anchored z new n l f
 
       abbrev Holds : State → Type 0
-      Holds z = SafeCall (sectorsIn (length image)) (Unmatched (anchorTo z image log plan) r) (AnchorNoEffect z new log) (tableOf (entered image log healthy true (by z) .log)) (entered image log plan true (by z))
+      Holds z =
+          SafeCall (sectorsIn (length image)) (Unmatched (anchorTo z image log plan) r) (AnchorNoEffect z new log)
+          (tableOf (entered image log healthy true (by z) .log)) (entered image log plan true (by z))
 
       by-state : (z : State) → log .state ≡ z → Holds z
       unfolding anchoredFirst
@@ -199,7 +232,9 @@ module _ (image : List ℕ) (log : Log) (i : Inv image log) where
           call : Bool → ℕ → Log → Flash → Outcome
           call b n l f = pick b (anchoredFirst new n (formatted [] n l f)) (refused NotFormatted l f)
 
-          go : (b : Bool) → isFirst new ≡ b → SafeCall n C (AnchorNoEffect Unformatted new log) (tableOf (entered image log healthy true (call b) .log)) (entered image log plan true (call b))
+          go : (b : Bool) → isFirst new ≡ b
+              → SafeCall n C (AnchorNoEffect Unformatted new log) (tableOf (entered image log healthy true (call b) .log))
+              (entered image log plan true (call b))
           go true f =
               safe-weaker n C C (OrEmpty log) (AnchorNoEffect Unformatted new log) _ _ (λ _ u. u) (own f)
               (entered-safe image log i true (call true) C (OrEmpty log) (inl refl) plan (holding (joined r []))
@@ -212,17 +247,27 @@ module _ (image : List ℕ) (log : Log) (i : Inv image log) where
           entered-safe image log i true (by Failed) Always (λ x. x ≡ seen log) refl plan (tableOf log)
           (λ _. refusal-safe Always (λ x. x ≡ seen log) _ refl i refl (tableOf log) refl) (λ _. inr (λ g. (refl, refl)))
       by-state (Active sector seq head) e =
-          let keyed = keyed-safe true anchorTag 0 (λ (held : OptRaw) (room : Bool). anchorDecision held room new) (λ t. r) (anchor-sound new typed) plan in
-          subst (λ (z : State). SafeCall (sectorsIn (length image)) (Unmatched z r) (λ x. x ≡ seen log) (tableOf (entered image log healthy true (anchorCall new) .log)) (entered image log plan true (anchorCall new))) e keyed
+          let keyed =
+          keyed-safe true anchorTag 0 (λ (held : OptRaw) (room : Bool). anchorDecision held room new) (λ t. r) (anchor-sound new typed)
+          plan in
+          subst
+          (λ (z : State).
+          SafeCall (sectorsIn (length image)) (Unmatched z r) (λ x. x ≡ seen log)
+          (tableOf (entered image log healthy true (anchorCall new) .log)) (entered image log plan true (anchorCall new)))
+          e keyed
 
-    pub anchor-safe : (plan : Plan) → SafeCall (sectorsIn (length image)) (Unmatched (anchorTo (log .state) image log plan) r) (AnchorNoEffect (log .state) new log) (tableOf (putAnchorOf image log healthy new .log)) (putAnchorOf image log plan new)
+    pub anchor-safe : (plan : Plan)
+        → SafeCall (sectorsIn (length image)) (Unmatched (anchorTo (log .state) image log plan) r) (AnchorNoEffect (log .state) new log)
+        (tableOf (putAnchorOf image log healthy new .log)) (putAnchorOf image log plan new)
     unfolding putAnchorOf entered
     anchor-safe plan = by-state plan (log .state) refl
 
 -- ---- every call
 pub call-safe : (image : List ℕ) (log : Log) → Inv image log → (c : Call) → Typed c → (plan : Plan)
-    → SafeCall (sectorsIn (length image)) (Unmatched (appendsTo c image log plan) (recordOf c (recordsOf log))) (NoEffect c log) (tableAfter c image log) (outcomeOf c image log plan)
+    → SafeCall (sectorsIn (length image)) (Unmatched (appendsTo c image log plan) (recordOf c (recordsOf log))) (NoEffect c log)
+    (tableAfter c image log) (outcomeOf c image log plan)
 call-safe image log i =
     by-kind (λ (x : Shape). x .typed → (plan : Plan)
-    → SafeCall (sectorsIn (length image)) (Unmatched (x .appends image log plan) (x .writes (recordsOf log))) (x .left log) (tableOf (x .outcome image log healthy .log)) (x .outcome image log plan))
+    → SafeCall (sectorsIn (length image)) (Unmatched (x .appends image log plan) (x .writes (recordsOf log))) (x .left log)
+    (tableOf (x .outcome image log healthy .log)) (x .outcome image log plan))
     (λ typed known tag id d r m t plan. keyed-safe image log i known tag id d r (m .sound t) plan) (anchor-safe image log i) (format-safe image log i)

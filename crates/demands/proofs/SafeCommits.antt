@@ -53,7 +53,12 @@ module _ (n a : ℕ) (image : List ℕ) (next : ℕ) (t : List Raw) where
   spared-found Failed v f left k = absurd v
   spared-found (Active s seq head) v f left k = record {
     placed = f .placed;
-    wins = record { within = f .wins .within; own = ap (headerOf 2) (own 0 (omega arith)) ∙ f .wins .own; beats = λ y p u e. beats y p u e (k .others y u) };
+    wins =
+        record {
+          within = f .wins .within;
+          own = ap (headerOf 2) (own 0 (omega arith)) ∙ f .wins .own;
+          beats = λ y p u e. beats y p u e (k .others y u);
+        };
     erased = λ i l u. own i u ∙ f .erased i l u;
     reads = read-same (slotAt left s) (slotAt image s) seq _ 1 (these []) (λ i l u. own i (omega (arith, f .placed .high))) ∙ f .reads;
   }
@@ -61,7 +66,8 @@ module _ (n a : ℕ) (image : List ℕ) (next : ℕ) (t : List Raw) where
       own : (i : ℕ) → i < 256 → slotAt left s i ≡ slotAt image s i
       own = subst (λ (b : ℕ). (i : ℕ) → i < 256 → slotAt left b i ≡ slotAt image b i) v (k .own)
 
-      beats : (y p : ℕ) → y < n → headerAt 2 left y ≡ Valid p → (headerAt 2 left y ≡ headerAt 2 image y) ⊎ (headerAt 2 left y ≡ Invalid) → (p < seq) ⊎ ((p ≡ seq) × (s ≤ y))
+      beats : (y p : ℕ) → y < n → headerAt 2 left y ≡ Valid p → (headerAt 2 left y ≡ headerAt 2 image y) ⊎ (headerAt 2 left y ≡ Invalid)
+          → (p < seq) ⊎ ((p ≡ seq) × (s ≤ y))
       beats y p u e (inl h) = f .wins .beats y p u (sym h ∙ e)
       beats y p u e (inr h) = absurd (valid-invalid (headerAt 2 left y) p h e)
 
@@ -124,7 +130,8 @@ module _ (n a : ℕ) (image : List ℕ) (next : ℕ) (t : List Raw) where
       found = found-raised state v m (g .found);
     }
 
-agrees-newest : (n x seq : ℕ) (t : List Raw) (left : List ℕ) → n ≤ 16 → seq < seqMax → Proper t → Newest n x seq t left → Agrees n left (Active x seq (length t + 1)) (seq + 1) t
+agrees-newest : (n x seq : ℕ) (t : List Raw) (left : List ℕ) → n ≤ 16 → seq < seqMax → Proper t → Newest n x seq t left
+    → Agrees n left (Active x seq (length t + 1)) (seq + 1) t
 agrees-newest n x seq t left few m p k = record {
   sized = ap sectorsIn (k .size) ∙ sectors-of n few;
   bytes = k .bytes;
@@ -145,15 +152,18 @@ pub record Wakes (n : ℕ) (P : Seen → Type 0) (later : Table) (image : List �
 
 -- old and new are the tables before and after; P says what may be seen of a write that failed, C what must be known of the image of one that was cut
 pub data Safe (n : ℕ) (C : List ℕ → Type 0) (P : Seen → Type 0) (old new : List Raw) (w : Written) : Type 0 where
-  done : isDone (w .answer) ≡ true → w .flash .cut ≡ false → Agrees n (w .flash .image) (w .state) (w .next) new → tableIn (seenBy (w .state) new) ≡ holding new → Safe n C P old new w
-  failed : Fails (w .answer) → w .flash .cut ≡ false → Agrees n (w .flash .image) (w .state) (w .next) old → P (seenBy (w .state) old) → Safe n C P old new w
+  done : isDone (w .answer) ≡ true → w .flash .cut ≡ false → Agrees n (w .flash .image) (w .state) (w .next) new
+      → tableIn (seenBy (w .state) new) ≡ holding new → Safe n C P old new w
+  failed : Fails (w .answer) → w .flash .cut ≡ false → Agrees n (w .flash .image) (w .state) (w .next) old → P (seenBy (w .state) old)
+      → Safe n C P old new w
   stopped : Fails (w .answer) → Cut (w .flash) → (C (w .flash .image) → Wakes n P (holding new) (w .flash .image)) → Safe n C P old new w
 
 -- after a cut nothing changes any more
 abbrev pub StillWrote : Flash → Written → Type 0
 StillWrote f w = Still f (w .answer) (w .flash)
 
-still-safe : (n : ℕ) (C : List ℕ → Type 0) (P : Seen → Type 0) (old new : List Raw) (f : Flash) (w : Written) → StillWrote f w → (C (f .image) → Wakes n P (holding new) (f .image)) → Safe n C P old new w
+still-safe : (n : ℕ) (C : List ℕ → Type 0) (P : Seen → Type 0) (old new : List Raw) (f : Flash) (w : Written) → StillWrote f w
+    → (C (f .image) → Wakes n P (holding new) (f .image)) → Safe n C P old new w
 still-safe n C P old new f w s k = stopped (s .fails) (s .cut) (λ c. subst (Wakes n P (holding new)) (sym (s .same)) (k (subst C (s .same) c)))
 
 sector-still : (s seq : ℕ) (t : List Raw) (f : Flash) → Cut f → Still f (writeSector s seq t f .answer) (writeSector s seq t f .flash)
@@ -161,7 +171,8 @@ sector-still s seq t f c =
     let e = erase-still f c s in
     subst (λ (o : Stepped). Still f (o .answer) (o .flash)) (sym (sector-unerased s seq t f (e .fails))) e
 
-pub commit-still : (m n a s : ℕ) (t : List Raw) (last : Answer) (state : State) (next : ℕ) (f : Flash) → Cut f → Fails last → StillWrote f (commitFrom m n a s t last state next f)
+pub commit-still : (m n a s : ℕ) (t : List Raw) (last : Answer) (state : State) (next : ℕ) (f : Flash) → Cut f → Fails last
+    → StillWrote f (commitFrom m n a s t last state next f)
 unfolding commitFrom
 commit-still zero n a s t last state next f c h = record { fails = h; same = refl; cut = c }
 commit-still (suc m) n a s t last state next f c h =
@@ -173,12 +184,14 @@ commit-still (suc m) n a s t last state next f c h =
     still-on f (writeSector s next t f .flash) _ (writeSector s next t f .answer) _ e
     (commit-still m n a (sectorAfter n s) t (writeSector s next t f .answer) state (next + 1) (writeSector s next t f .flash) (e .cut) (e .fails)))))
 
-module _ (n a : ℕ) (C : List ℕ → Type 0) (P : Seen → Type 0) (state : State) (v : Avoids state n a) (old new : List Raw) (proper : Proper new) (p : P (seenBy state old)) where
+module _ (n a : ℕ) (C : List ℕ → Type 0) (P : Seen → Type 0) (state : State) (v : Avoids state n a) (old new : List Raw)
+    (proper : Proper new) (p : P (seenBy state old)) where
   abbrev Fine : Written → Type 0
   Fine w = Safe n C P old new w
 
   -- one sector was written, and `rest` is what follows where that failed
-  one-sector : (s next : ℕ) (f : Flash) (o : Stepped) (rest : Written) → next < seqMax → Agrees n (f .image) state next old → Sectored n a s next new f o
+  one-sector : (s next : ℕ) (f : Flash) (o : Stepped) (rest : Written) → next < seqMax → Agrees n (f .image) state next old
+      → Sectored n a s next new f o
       → (o .flash .cut ≡ false → Agrees n (o .flash .image) state (next + 1) old → Fails (o .answer) → Fine rest)
       → (Cut (o .flash) → Fails (o .answer) → StillWrote (o .flash) rest)
       → Fine (pick (isDone (o .answer)) (record { answer = Done; state = Active s next (length new + 1); next = next + 1; flash = o .flash }) rest)
@@ -189,10 +202,25 @@ module _ (n a : ℕ) (C : List ℕ → Type 0) (P : Seen → Type 0) (state : St
   one-sector s next f o rest m g (Sectored.stopped i e c k) on still = rw e (still-safe n C P old new (o .flash) rest (still c e) (λ _. go k))
     where
       go : (Spared n a (f .image) (o .flash .image)) ⊎ (Newest n s next new (o .flash .image)) → Wakes n P (holding new) (o .flash .image)
-      go (inl z) = record { state = state; next = next; t = old; agrees = agrees-spared n a (f .image) next old state v g (o .flash .image) z; shows = inl p }
-      go (inr z) = record { state = Active s next (length new + 1); next = next + 1; t = new; agrees = agrees-newest n s next new (o .flash .image) (agrees-few n a (f .image) next old state v g) m proper z; shows = inr refl }
+      go (inl z) =
+          record {
+            state = state;
+            next = next;
+            t = old;
+            agrees = agrees-spared n a (f .image) next old state v g (o .flash .image) z;
+            shows = inl p;
+          }
+      go (inr z) =
+          record {
+            state = Active s next (length new + 1);
+            next = next + 1;
+            t = new;
+            agrees = agrees-newest n s next new (o .flash .image) (agrees-few n a (f .image) next old state v g) m proper z;
+            shows = inr refl;
+          }
 
-  pub commit-safe : (m s : ℕ) (last : Answer) (next : ℕ) (f : Flash) → s < n → f .cut ≡ false → Fails last → Agrees n (f .image) state next old → Fine (commitFrom m n a s new last state next f)
+  pub commit-safe : (m s : ℕ) (last : Answer) (next : ℕ) (f : Flash) → s < n → f .cut ≡ false → Fails last
+      → Agrees n (f .image) state next old → Fine (commitFrom m n a s new last state next f)
   unfolding commitFrom
   commit-safe zero s last next f within on h g = failed h on g p
   commit-safe (suc m) s last next f within on h g =
@@ -202,6 +230,9 @@ module _ (n a : ℕ) (C : List ℕ → Type 0) (P : Seen → Type 0) (state : St
       let below-most = eqb-false next seqMax nm in
       let lt : next < seqMax = omega (arith, g .most) in
       one-sector s next f (writeSector s next new f) _ lt g
-      (sector-sectored n a s next within (eqb-false s a sa) lt new proper f (agrees-size n a (f .image) next old state v g) (g .bytes) (found-below n a (f .image) next old state v below-most (g .found)) on)
-      (λ c i e. commit-safe m (sectorAfter n s) (writeSector s next new f .answer) (next + 1) (writeSector s next new f .flash) (after-within n s within) c e i)
+      (sector-sectored n a s next within (eqb-false s a sa) lt new proper f (agrees-size n a (f .image) next old state v g) (g .bytes)
+      (found-below n a (f .image) next old state v below-most (g .found)) on)
+      (λ c i e.
+      commit-safe m (sectorAfter n s) (writeSector s next new f .answer) (next + 1) (writeSector s next new f .flash)
+      (after-within n s within) c e i)
       (λ c e. commit-still m n a (sectorAfter n s) new (writeSector s next new f .answer) state (next + 1) (writeSector s next new f .flash) c e)))

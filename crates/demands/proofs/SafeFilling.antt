@@ -34,7 +34,8 @@ module _ (n x : ℕ) (within : x < n) (k : ℕ) (image : List ℕ) (size : Fits 
   pub beyond-same : (left : List ℕ) → left ≡ image → Beyond n x k image left
   beyond-same left e = subst (Beyond n x k image) (sym e) (record { size = size; bytes = t; away = λ y i a u. refl; under = λ i u. refl })
 
-  pub beyond-put : k < 256 → (slot : List ℕ) → length slot ≡ 16 → T (areBytes slot) → (left : List ℕ) → left ≡ withSlot x k slot image → Beyond n x k image left
+  pub beyond-put : k < 256 → (slot : List ℕ) → length slot ≡ 16 → T (areBytes slot) → (left : List ℕ) → left ≡ withSlot x k slot image
+      → Beyond n x k image left
   beyond-put h slot sixteen b left e =
       subst (Beyond n x k image) (sym e) (record {
         size = with-slot-length n image size x within k h slot sixteen ∙ size;
@@ -62,17 +63,21 @@ pub data Filled (n x seq k : ℕ) (t : List Raw) (f : Flash) (o : Stepped) : Typ
 
 module _ (n x seq : ℕ) (within : x < n) (fits : seq < 2 ^ 32) where
   -- one record stands, and the rest follows
-  fill-on : (k : ℕ) (r : Raw) (t : List Raw) (f g : Flash) (o : Stepped) → k < 256 → (Healthy f → Healthy g) → Used 16 0 f g → Beyond n x k (f .image) (g .image)
+  fill-on : (k : ℕ) (r : Raw) (t : List Raw) (f g : Flash) (o : Stepped) → k < 256 → (Healthy f → Healthy g) → Used 16 0 f g
+      → Beyond n x k (f .image) (g .image)
       → slotAt (g .image) x k ≡ slotOf seq r → Filled n x seq (suc k) t g o → Filled n x seq k (r ∷ t) f o
   unfolding Written
-  fill-on k r t f g o h w u a e (failed i d c b) = failed (λ z. i (w z)) d c (beyond-on n x k (suc k) (f .image) (g .image) (o .flash .image) (omega arith) a b)
+  fill-on k r t f g o h w u a e (failed i d c b) =
+      failed (λ z. i (w z)) d c (beyond-on n x k (suc k) (f .image) (g .image) (o .flash .image) (omega arith) a b)
   fill-on k r t f g o h w u a e (done i d c b l z v) =
       done (λ y. i (w y)) d c (beyond-on n x k (suc k) (f .image) (g .image) (o .flash .image) (omega arith) a b)
       (b .under k (omega arith) ∙ e, l) (λ j p q. z j (omega arith) q)
       (record { programmed = omega (arith, u .programmed, v .programmed); erased = omega (arith, u .erased, v .erased) })
-  fill-on k r t f g o h w u a e (stopped i d c b) = stopped (λ z. i (w z)) d c (beyond-on n x k (suc k) (f .image) (g .image) (o .flash .image) (omega arith) a b)
+  fill-on k r t f g o h w u a e (stopped i d c b) =
+      stopped (λ z. i (w z)) d c (beyond-on n x k (suc k) (f .image) (g .image) (o .flash .image) (omega arith) a b)
 
-  pub records-filled : (t : List Raw) (k : ℕ) (f : Flash) → f .cut ≡ false → Fits n (f .image) → T (areBytes (f .image)) → AllWhole t → k + length t ≤ 256
+  pub records-filled : (t : List Raw) (k : ℕ) (f : Flash) → f .cut ≡ false → Fits n (f .image) → T (areBytes (f .image)) → AllWhole t
+      → k + length t ≤ 256
       → ((i : ℕ) → k ≤ i → i < 256 → slotAt (f .image) x i ≡ replicate 16 0xFF) → Filled n x seq k t f (writeRecords x seq k t f)
   unfolding writeRecords AllWhole Written
   records-filled [] k f on size bytes whole h blank =
@@ -95,16 +100,23 @@ module _ (n x seq : ℕ) (within : x < n) (fits : seq < 2 ^ 32) where
       fine = slot-bytes seq fits r (whole .0)
 
       put : (j : ℕ) → j ≤ 16 → o .flash .image ≡ withSlot x k (cutAt j slot) (f .image) → Beyond n x k (f .image) (o .flash .image)
-      put j m = beyond-put n x within k (f .image) size bytes (omega arith) (cutAt j slot) (cut-length slot sixteen j m) (cut-bytes slot sixteen j m fine) (o .flash .image)
+      put j m =
+          beyond-put n x within k (f .image) size bytes (omega arith) (cutAt j slot) (cut-length slot sixteen j m)
+          (cut-bytes slot sixteen j m fine) (o .flash .image)
 
       go : Ran x k slot f o
-          → (o .flash .cut ≡ false → Beyond n x k (f .image) (o .flash .image) → ((i : ℕ) → suc k ≤ i → i < 256 → slotAt (o .flash .image) x i ≡ replicate 16 0xFF) → Filled n x seq (suc k) t (o .flash) (writeRecords x seq (suc k) t (o .flash)))
+          → (o .flash .cut ≡ false → Beyond n x k (f .image) (o .flash .image)
+          → ((i : ℕ) → suc k ≤ i → i < 256 → slotAt (o .flash .image) x i ≡ replicate 16 0xFF)
+          → Filled n x seq (suc k) t (o .flash) (writeRecords x seq (suc k) t (o .flash)))
           → Filled n x seq k (r ∷ t) f (pick (isDone (o .answer)) (writeRecords x seq (suc k) t (o .flash)) o)
       go (Ran.refused w e c i) ih = rw e (failed w e c (beyond-same n x within k (f .image) size bytes (o .flash .image) i))
       go (Ran.done w e c i u) ih =
           let b = beyond-put n x within k (f .image) size bytes (omega arith) slot sixteen fine (o .flash .image) i in
           let here = ap (λ (l : List ℕ). slotAt l x k) i ∙ with-slot-here n (f .image) size x within k (omega arith) slot sixteen in
           let behind : (j : ℕ) → suc k ≤ j → j < 256 → slotAt (o .flash .image) x j ≡ replicate 16 0xFF =
-          λ j l m. ap (λ (y : List ℕ). slotAt y x j) i ∙ with-slot-beside n (f .image) size x within k (omega arith) slot sixteen j (λ z. omega arith) ∙ blank j (omega arith) m in
+          λ j l m.
+          ap (λ (y : List ℕ). slotAt y x j) i
+          ∙ with-slot-beside n (f .image) size x within k (omega arith) slot sixteen j (λ z. omega arith)
+          ∙ blank j (omega arith) m in
           rw e (fill-on k r t f (o .flash) (writeRecords x seq (suc k) t (o .flash)) (omega arith) w u b here (ih c b behind))
       go (Ran.stopped w e c j l i) ih = rw e (stopped w e c (put j (omega arith) i))

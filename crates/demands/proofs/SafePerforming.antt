@@ -41,11 +41,13 @@ pub record WakesUp (P : Seen → Type 0) (later : Table) (image : List ℕ) : Ty
 
 -- P says what may be seen of a call that failed, C what must be known of the image of one that was cut
 pub data SafeCall (n : ℕ) (C : List ℕ → Type 0) (P : Seen → Type 0) (later : Table) (o : Outcome) : Type 0 where
-  lasted : o .flash .cut ≡ false → sectorsIn (length (o .flash .image)) ≡ n → Inv (o .flash .image) (o .log) → ((isDone (o .answer) ≡ true) × (tableOf (o .log) ≡ later)) ⊎ (Fails (o .answer) × P (seen (o .log))) → SafeCall n C P later o
+  lasted : o .flash .cut ≡ false → sectorsIn (length (o .flash .image)) ≡ n → Inv (o .flash .image) (o .log)
+      → ((isDone (o .answer) ≡ true) × (tableOf (o .log) ≡ later)) ⊎ (Fails (o .answer) × P (seen (o .log))) → SafeCall n C P later o
   stopped : Cut (o .flash) → Fails (o .answer) → (C (o .flash .image) → WakesUp P later (o .flash .image)) → SafeCall n C P later o
 
 -- a log that is handed back without a write
-module _ (C : List ℕ → Type 0) (P : Seen → Type 0) (o : Outcome) (on : o .flash .cut ≡ false) (i : Inv (o .flash .image) (o .log)) (p : P (seen (o .log))) where
+module _ (C : List ℕ → Type 0) (P : Seen → Type 0) (o : Outcome) (on : o .flash .cut ≡ false) (i : Inv (o .flash .image) (o .log))
+    (p : P (seen (o .log))) where
   pub refusal-safe : (later : Table) → Fails (o .answer) → SafeCall (sectorsIn (length (o .flash .image))) C P later o
   refusal-safe later e = lasted on refl i (inr (e, p))
 
@@ -57,7 +59,8 @@ module _ (C : List ℕ → Type 0) (P : Seen → Type 0) (o : Outcome) (on : o .
       go false e = refusal-safe (tableOf (o .log)) e
 
 -- weaker demands
-pub safe-weaker : (n : ℕ) (C D : List ℕ → Type 0) (P Q : Seen → Type 0) (later : Table) (o : Outcome) → ((l : List ℕ) → D l → C l) → ((z : Seen) → P z → Q z) → SafeCall n C P later o → SafeCall n D Q later o
+pub safe-weaker : (n : ℕ) (C D : List ℕ → Type 0) (P Q : Seen → Type 0) (later : Table) (o : Outcome) → ((l : List ℕ) → D l → C l)
+    → ((z : Seen) → P z → Q z) → SafeCall n C P later o → SafeCall n D Q later o
 safe-weaker n C D P Q later o c q (lasted on z i (inl d)) = lasted on z i (inl d)
 safe-weaker n C D P Q later o c q (lasted on z i (inr d)) = lasted on z i (inr (d .0, q (seen (o .log)) (d .1)))
 safe-weaker n C D P Q later o c q (stopped x e k) = stopped x e (λ d. go (k (c (o .flash .image) d)))
@@ -73,7 +76,8 @@ safe-weaker n C D P Q later o c q (stopped x e k) = stopped x e (λ d. go (k (c 
 pub seen-of : (state : State) (next : ℕ) (t : List Raw) → seen (logOf state next t) ≡ seenBy state t
 seen-of state next t = ap (seenBy state) (places-take t)
 
-wrote-safe : (n : ℕ) (C : List ℕ → Type 0) (P : Seen → Type 0) (old new : List Raw) (w : Written) (value : ℕ) → Safe n C P old new w → SafeCall n C P (holding new) (writtenOutcome w value new old)
+wrote-safe : (n : ℕ) (C : List ℕ → Type 0) (P : Seen → Type 0) (old new : List Raw) (w : Written) (value : ℕ) → Safe n C P old new w
+    → SafeCall n C P (holding new) (writtenOutcome w value new old)
 wrote-safe n C P old new w value (Safe.done e c a s) =
     rw e (lasted c (a .sized) (inv-of n (w .flash .image) (w .state) (w .next) new a) (inl (e, ap tableIn (seen-of (w .state) (w .next) new) ∙ s)))
 wrote-safe n C P old new w value (Safe.failed e c a p) =
@@ -88,7 +92,8 @@ wrote-safe n C P old new w value (Safe.stopped e c k) = stopped c e (λ d. go (k
           shows = shown (u .shows);
         }
       where
-        shown : P (seenBy (u .state) (u .t)) ⊎ (tableIn (seenBy (u .state) (u .t)) ≡ holding new) → P (seen (logOf (u .state) (u .next) (u .t))) ⊎ (tableOf (logOf (u .state) (u .next) (u .t)) ≡ holding new)
+        shown : P (seenBy (u .state) (u .t)) ⊎ (tableIn (seenBy (u .state) (u .t)) ≡ holding new)
+            → P (seen (logOf (u .state) (u .next) (u .t))) ⊎ (tableOf (logOf (u .state) (u .next) (u .t)) ≡ holding new)
         shown (inl a) = inl (subst P (sym (seen-of (u .state) (u .next) (u .t))) a)
         shown (inr a) = inr (ap tableIn (seen-of (u .state) (u .next) (u .t)) ∙ a)
 
@@ -112,7 +117,8 @@ module _ (f : Flash) (log : Log) (on : f .cut ≡ false) (i : Inv (f .image) log
   abbrev Same : Seen → Type 0
   Same z = z ≡ seen log
 
-  appended-safe : (state : State) → log .state ≡ state → (r : Raw) (value : ℕ) → Writable r (recordsOf log) → SafeCall n (Unmatched state r) Same (holding (joined r (recordsOf log))) (appended state n r value log f)
+  appended-safe : (state : State) → log .state ≡ state → (r : Raw) (value : ℕ) → Writable r (recordsOf log)
+      → SafeCall n (Unmatched state r) Same (holding (joined r (recordsOf log))) (appended state n r value log f)
   appended-safe Unformatted e r value w = refusal-safe _ Same _ on i refl _ refl
   appended-safe Failed e r value w = refusal-safe _ Same _ on i refl _ refl
   appended-safe (Active s seq head) e r value w =
@@ -121,7 +127,8 @@ module _ (f : Flash) (log : Log) (on : f .cut ≡ false) (i : Inv (f .image) log
       wrote-safe n (Unmatched (Active s seq head) r) Same (recordsOf log) (joined r (recordsOf log)) _ value
       (append-safe n s seq r (recordsOf log) w (log .«next_seq») head Same before f on here)
 
-  pub performed-safe : (d : Decision) (r : Raw) → (d .write ≡ true → WritesRecord d r (recordsOf log)) → SafeCall n (Unmatched (log .state) r) Same (decidedTable d log) (performed d n log f)
+  pub performed-safe : (d : Decision) (r : Raw) → (d .write ≡ true → WritesRecord d r (recordsOf log))
+      → SafeCall n (Unmatched (log .state) r) Same (decidedTable d log) (performed d n log f)
   unfolding performed
   performed-safe d r sound = go (d .write) refl
     where
@@ -129,7 +136,11 @@ module _ (f : Flash) (log : Log) (on : f .cut ≡ false) (i : Inv (f .image) log
           → SafeCall n (Unmatched (log .state) r) Same (pick b (holding (joined (d .rec) (recordsOf log))) (tableOf log))
           (pick b (appended (log .state) n (d .rec) (d .value) log f) (record { answer = d .answer; value = d .value; log = log; flash = f }))
       go true e =
-          subst (λ (x : Raw). SafeCall n (Unmatched (log .state) r) Same (holding (joined x (recordsOf log))) (appended (log .state) n x (d .value) log f)) (sym (sound e .rec-is))
+          subst
+          (λ (x : Raw).
+          SafeCall n (Unmatched (log .state) r) Same (holding (joined x (recordsOf log)))
+          (appended (log .state) n x (d .value) log f))
+          (sym (sound e .rec-is))
           (appended-safe (log .state) refl r (d .value) (sound e .may))
       go false e = unwritten-safe (Unmatched (log .state) r) Same (record { answer = d .answer; value = d .value; log = log; flash = f }) on i refl
 

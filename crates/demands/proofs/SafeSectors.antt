@@ -49,7 +49,8 @@ pub data Sectored (n a x seq : ℕ) (t : List Raw) (f : Flash) (o : Stepped) : T
   failed : (Healthy f → ⊥) → Fails (o .answer) → o .flash .cut ≡ false → Spared n a (f .image) (o .flash .image) → Sectored n a x seq t f o
   done : (Healthy f → Healthy (o .flash)) → isDone (o .answer) ≡ true → o .flash .cut ≡ false → Newest n x seq t (o .flash .image)
       → Used (16 * (length t + 1)) 4096 f (o .flash) → Sectored n a x seq t f o
-  stopped : (Healthy f → ⊥) → Fails (o .answer) → Cut (o .flash) → (Spared n a (f .image) (o .flash .image)) ⊎ (Newest n x seq t (o .flash .image)) → Sectored n a x seq t f o
+  stopped : (Healthy f → ⊥) → Fails (o .answer) → Cut (o .flash)
+      → (Spared n a (f .image) (o .flash .image)) ⊎ (Newest n x seq t (o .flash .image)) → Sectored n a x seq t f o
 
 -- every valid header has a lower seq
 abbrev pub Below : ℕ → List ℕ → ℕ → Type 0
@@ -64,7 +65,8 @@ module _ (n a x seq : ℕ) (within : x < n) (apart : x ≡ a → ⊥) (fits : se
   spared-same left e = subst (Spared n a image) (sym e) (record { size = size; bytes = bytes; own = λ i u. refl; others = λ y u. inl refl })
 
   -- only sector x changed, and its header is gone
-  spared-gone : (left : List ℕ) → Fits n left → T (areBytes left) → ((y i : ℕ) → (y ≡ x → ⊥) → i < 256 → slotAt left y i ≡ slotAt image y i) → headerAt 2 left x ≡ Invalid → Spared n a image left
+  spared-gone : (left : List ℕ) → Fits n left → T (areBytes left) → ((y i : ℕ) → (y ≡ x → ⊥) → i < 256 → slotAt left y i ≡ slotAt image y i)
+      → headerAt 2 left x ≡ Invalid → Spared n a image left
   spared-gone left fit b away gone = record {
     size = fit;
     bytes = b;
@@ -124,7 +126,8 @@ module _ (n a x seq : ℕ) (within : x < n) (apart : x ≡ a → ⊥) (fits : se
   wiped = withSector x (blanked 4096 (sectorAt image x)) image
 
   module _ (g : Flash) (w : Healthy f → Healthy g) (on : g .cut ≡ false) (is : g .image ≡ wiped) (u : Used 0 4096 f g)
-      (fit : Fits n (g .image)) (b : T (areBytes (g .image))) (away : (y i : ℕ) → (y ≡ x → ⊥) → i < 256 → slotAt (g .image) y i ≡ slotAt image y i) where
+      (fit : Fits n (g .image)) (b : T (areBytes (g .image)))
+      (away : (y i : ℕ) → (y ≡ x → ⊥) → i < 256 → slotAt (g .image) y i ≡ slotAt image y i) where
     blank : (i : ℕ) → i < 256 → slotAt (g .image) x i ≡ replicate 16 0xFF
     blank i h = ap (λ (l : List ℕ). slotAt l x i) is ∙ erased-slot n image size x within i h
 
@@ -136,11 +139,16 @@ module _ (n a x seq : ℕ) (within : x < n) (apart : x ≡ a → ⊥) (fits : se
     beyond-blank left v = v .under 0 (omega arith) ∙ blank 0 (omega arith)
 
     beyond-spared : (left : List ℕ) → Beyond n x 1 (g .image) left → Spared n a image left
-    beyond-spared left v = spared-gone left (v .size) (v .bytes) (beyond-away left v) (header-none (slotAt left x 0) (ap (λ (l : List ℕ). getD l 0 0) (beyond-blank left v)))
+    beyond-spared left v =
+        spared-gone left (v .size) (v .bytes) (beyond-away left v)
+        (header-none (slotAt left x 0) (ap (λ (l : List ℕ). getD l 0 0) (beyond-blank left v)))
 
-    header-sectored : (h : Flash) → (Healthy g → Healthy h) → h .cut ≡ false → Beyond n x 1 (g .image) (h .image) → Written seq (slotAt (h .image) x) 1 t
-        → ((i : ℕ) → 1 + length t ≤ i → i < 256 → slotAt (h .image) x i ≡ replicate 16 0xFF) → Used (16 * length t) 0 g h → Sectored n a x seq t f (program x 0 (headerSlot seq) h)
-    header-sectored h v c k written rest used = go (program-ran x 0 (headerSlot seq) h c (beyond-blank (h .image) k) (header-sixteen seq) (header-bytes seq (omega arith)))
+    header-sectored : (h : Flash) → (Healthy g → Healthy h) → h .cut ≡ false → Beyond n x 1 (g .image) (h .image)
+        → Written seq (slotAt (h .image) x) 1 t
+        → ((i : ℕ) → 1 + length t ≤ i → i < 256 → slotAt (h .image) x i ≡ replicate 16 0xFF) → Used (16 * length t) 0 g h
+        → Sectored n a x seq t f (program x 0 (headerSlot seq) h)
+    header-sectored h v c k written rest used =
+        go (program-ran x 0 (headerSlot seq) h c (beyond-blank (h .image) k) (header-sixteen seq) (header-bytes seq (omega arith)))
       where
         o : Stepped
         o = program x 0 (headerSlot seq) h
@@ -149,8 +157,12 @@ module _ (n a x seq : ℕ) (within : x < n) (apart : x ≡ a → ⊥) (fits : se
         go (Ran.refused i e d j) = failed (λ z. i (v (w z))) e d (subst (Spared n a image) (sym j) (beyond-spared (h .image) k))
         go (Ran.done i e d j s) =
             done (λ z. i (v (w z))) e d
-            (headed (h .image) (k .size) (k .bytes) (beyond-away (h .image) k) written rest (headerSlot seq) (header-sixteen seq) (header-bytes seq (omega arith)) (o .flash .image) j (header-read seq))
-            (record { programmed = omega (arith, u .programmed, used .programmed, s .programmed); erased = omega (arith, u .erased, used .erased, s .erased) })
+            (headed (h .image) (k .size) (k .bytes) (beyond-away (h .image) k) written rest (headerSlot seq) (header-sixteen seq)
+            (header-bytes seq (omega arith)) (o .flash .image) j (header-read seq))
+            (record {
+              programmed = omega (arith, u .programmed, used .programmed, s .programmed);
+              erased = omega (arith, u .erased, used .erased, s .erased);
+            })
         go (Ran.stopped i e d j l m) = stopped (λ z. i (v (w z))) e d (parts (cut-header seq j (omega arith)))
           where
             slot : List ℕ
@@ -162,9 +174,14 @@ module _ (n a x seq : ℕ) (within : x < n) (apart : x ≡ a → ⊥) (fits : se
             fine : T (areBytes slot)
             fine = cut-bytes (headerSlot seq) (header-sixteen seq) j (omega arith) (header-bytes seq (omega arith))
 
-            parts : (headerOf 2 slot ≡ Invalid) ⊎ (headerOf 2 slot ≡ Valid seq) → (Spared n a image (o .flash .image)) ⊎ (Newest n x seq t (o .flash .image))
-            parts (inl z) = inl (unheaded (h .image) (k .size) (k .bytes) (beyond-away (h .image) k) written rest slot sixteen fine (o .flash .image) m z)
-            parts (inr z) = inr (headed (h .image) (k .size) (k .bytes) (beyond-away (h .image) k) written rest slot sixteen fine (o .flash .image) m z)
+            parts : (headerOf 2 slot ≡ Invalid) ⊎ (headerOf 2 slot ≡ Valid seq)
+                → (Spared n a image (o .flash .image)) ⊎ (Newest n x seq t (o .flash .image))
+            parts (inl z) =
+                inl
+                (unheaded (h .image) (k .size) (k .bytes) (beyond-away (h .image) k) written rest slot sixteen fine (o .flash .image) m
+                z)
+            parts (inr z) =
+                inr (headed (h .image) (k .size) (k .bytes) (beyond-away (h .image) k) written rest slot sixteen fine (o .flash .image) m z)
 
   -- ---- by how the erase ended
   abbrev first : Stepped
@@ -173,10 +190,13 @@ module _ (n a x seq : ℕ) (within : x < n) (apart : x ≡ a → ⊥) (fits : se
   away-first : (y i : ℕ) → (y ≡ x → ⊥) → i < 256 → slotAt (first .flash .image) y i ≡ slotAt image y i
   away-first = erase-apart x f n size within
 
-  erased-sectored : (Healthy f → Healthy (first .flash)) → isDone (first .answer) ≡ true → first .flash .cut ≡ false → first .flash .image ≡ wiped → Used 0 4096 f (first .flash)
+  erased-sectored : (Healthy f → Healthy (first .flash)) → isDone (first .answer) ≡ true → first .flash .cut ≡ false
+      → first .flash .image ≡ wiped → Used 0 4096 f (first .flash)
       → Sectored n a x seq t f (writeSector x seq t f)
   erased-sectored w e on is u =
-      go (records-filled n x seq within (omega arith) t 1 g on fit b (proper .whole) (omega (arith, proper .few)) (λ i l h. blank g w on is u fit b away-first i h))
+      go
+      (records-filled n x seq within (omega arith) t 1 g on fit b (proper .whole) (omega (arith, proper .few))
+      (λ i l h. blank g w on is u fit b away-first i h))
     where
       g : Flash
       g = first .flash
@@ -192,23 +212,30 @@ module _ (n a x seq : ℕ) (within : x < n) (apart : x ≡ a → ⊥) (fits : se
 
       go : Filled n x seq 1 t g second → Sectored n a x seq t f (writeSector x seq t f)
       go (Filled.failed i d c k) =
-          subst (Sectored n a x seq t f) (sym (sector-unfilled x seq t f e d)) (failed (λ z. i (w z)) d c (beyond-spared g w on is u fit b away-first (second .flash .image) k))
+          subst (Sectored n a x seq t f) (sym (sector-unfilled x seq t f e d))
+          (failed (λ z. i (w z)) d c (beyond-spared g w on is u fit b away-first (second .flash .image) k))
       go (Filled.done i d c k l r v) =
-          subst (Sectored n a x seq t f) (sym (sector-headed x seq t f e d)) (header-sectored g w on is u fit b away-first (second .flash) i c k l r v)
+          subst (Sectored n a x seq t f) (sym (sector-headed x seq t f e d))
+          (header-sectored g w on is u fit b away-first (second .flash) i c k l r v)
       go (Filled.stopped i d c k) =
-          subst (Sectored n a x seq t f) (sym (sector-unfilled x seq t f e d)) (stopped (λ z. i (w z)) d c (inl (beyond-spared g w on is u fit b away-first (second .flash .image) k)))
+          subst (Sectored n a x seq t f) (sym (sector-unfilled x seq t f e d))
+          (stopped (λ z. i (w z)) d c (inl (beyond-spared g w on is u fit b away-first (second .flash .image) k)))
 
   -- an erase that was cut took the header with its first byte
-  stopped-spared : (j : ℕ) → j < 4096 → first .flash .image ≡ withSector x (blanked j (sectorAt image x)) image → Spared n a image (first .flash .image)
+  stopped-spared : (j : ℕ) → j < 4096 → first .flash .image ≡ withSector x (blanked j (sectorAt image x)) image
+      → Spared n a image (first .flash .image)
   stopped-spared zero h is = spared-same (first .flash .image) (is ∙ erased-none image x)
   stopped-spared (suc j) h is =
       spared-gone (first .flash .image) (erase-fits x f n size within) (erase-bytes x f bytes) away-first
-      (header-none (slotAt (first .flash .image) x 0) (ap (λ (l : List ℕ). getD (slotAt l x 0) 0 0) is ∙ erased-first n image size x within (suc j) (omega arith) (omega arith)))
+      (header-none (slotAt (first .flash .image) x 0)
+      (ap (λ (l : List ℕ). getD (slotAt l x 0) 0 0) is ∙ erased-first n image size x within (suc j) (omega arith) (omega arith)))
 
   pub sector-sectored : f .cut ≡ false → Sectored n a x seq t f (writeSector x seq t f)
   sector-sectored on = go (erase-wiped x f on)
     where
       go : Wiped x f first → Sectored n a x seq t f (writeSector x seq t f)
-      go (Wiped.refused i e c is) = subst (Sectored n a x seq t f) (sym (sector-unerased x seq t f e)) (failed i e c (spared-same (first .flash .image) is))
+      go (Wiped.refused i e c is) =
+          subst (Sectored n a x seq t f) (sym (sector-unerased x seq t f e)) (failed i e c (spared-same (first .flash .image) is))
       go (Wiped.done i e c is u) = erased-sectored i e c is u
-      go (Wiped.stopped i e c j h is) = subst (Sectored n a x seq t f) (sym (sector-unerased x seq t f e)) (stopped i e c (inl (stopped-spared j h is)))
+      go (Wiped.stopped i e c j h is) =
+          subst (Sectored n a x seq t f) (sym (sector-unerased x seq t f e)) (stopped i e c (inl (stopped-spared j h is)))

@@ -154,7 +154,8 @@ module _ (seq : ℕ) (slots : ℕ → List ℕ) where
   Written k [] = Unit {0}
   Written k (r ∷ t) = (slots k ≡ slotOf seq r) × Written (suc k) t
 
-pub written-same : (seq : ℕ) (slots others : ℕ → List ℕ) (k : ℕ) (t : List Raw) → ((i : ℕ) → k ≤ i → i < k + length t → others i ≡ slots i) → Written seq slots k t → Written seq others k t
+pub written-same : (seq : ℕ) (slots others : ℕ → List ℕ) (k : ℕ) (t : List Raw) → ((i : ℕ) → k ≤ i → i < k + length t → others i ≡ slots i)
+    → Written seq slots k t → Written seq others k t
 unfolding Written
 written-same seq slots others k [] alike w = tt
 written-same seq slots others k (r ∷ t) alike w =
@@ -167,7 +168,8 @@ eqb-back x y = alike (eqb x y) (eqb y x) (λ e. eq-eqb y x (sym (eqb-true x y e)
 holds-append : (tag id : ℕ) (a b : List Raw) → holds tag id (a ++ b) ≡ (holds tag id a || holds tag id b)
 unfolding holds
 holds-append tag id [] b = refl
-holds-append tag id (e ∷ a) b = ap (λ (x : Bool). hasKey tag id e || x) (holds-append tag id a b) ∙ sym (or-assoc (hasKey tag id e) (holds tag id a) (holds tag id b))
+holds-append tag id (e ∷ a) b =
+    ap (λ (x : Bool). hasKey tag id e || x) (holds-append tag id a b) ∙ sym (or-assoc (hasKey tag id e) (holds tag id a) (holds tag id b))
 
 none-left : (a b : Bool) → (a || b) ≡ false → a ≡ false
 none-left true b e = absurd (false≢true (sym e))
@@ -182,8 +184,11 @@ apart-before : (r : Raw) (a t : List Raw) → Apart (a ++ (r ∷ t)) → holds (
 unfolding Apart holds
 apart-before r [] t p = refl
 apart-before r (e ∷ a) t p =
-    let here = none-left (hasKey (e .tag) (e .id) r) (holds (e .tag) (e .id) t) (none-right (holds (e .tag) (e .id) a) (holds (e .tag) (e .id) (r ∷ t)) (sym (holds-append (e .tag) (e .id) a (r ∷ t)) ∙ p .0)) in
-    ap₂ (λ (x y : Bool). x || y) (ap₂ (λ (x y : Bool). x && y) (eqb-back (e .tag) (r .tag)) (eqb-back (e .id) (r .id)) ∙ here) (apart-before r a t (p .1))
+    let here =
+    none-left (hasKey (e .tag) (e .id) r) (holds (e .tag) (e .id) t)
+    (none-right (holds (e .tag) (e .id) a) (holds (e .tag) (e .id) (r ∷ t)) (sym (holds-append (e .tag) (e .id) a (r ∷ t)) ∙ p .0)) in
+    ap₂ (λ (x y : Bool). x || y) (ap₂ (λ (x y : Bool). x && y) (eqb-back (e .tag) (r .tag)) (eqb-back (e .id) (r .id)) ∙ here)
+    (apart-before r a t (p .1))
 
 slot-new : (seq : ℕ) (r : Raw) (a : List Raw) → Whole r → (r .tag ≡ 0xFF → ⊥) → holds (r .tag) (r .id) a ≡ false → length a < limit
     → withSlot seq (slotOf seq r) (these a) ≡ these (a ++ (r ∷ []))
@@ -193,17 +198,20 @@ slot-new seq r a w tagged new room =
     ∙ ap (λ (b : Bool). pick b (these (absorbed r a)) tooMany) (ap₂ (λ (x y : Bool). x || y) new (lt-ltb (length a) limit room))
     ∙ ap these (absorb-new r a (omega (arith, place-most (r .tag) (r .id) a)))
 
-read-from : (seq : ℕ) (slots : ℕ → List ℕ) (k : ℕ) (a t : List Raw) → Apart (a ++ t) → Tagged t → AllWhole t → length a + length t ≤ limit → Written seq slots k t
+read-from : (seq : ℕ) (slots : ℕ → List ℕ) (k : ℕ) (a t : List Raw) → Apart (a ++ t) → Tagged t → AllWhole t → length a + length t ≤ limit
+    → Written seq slots k t
     → readFrom (length t) k seq slots (these a) ≡ these (a ++ t)
 unfolding readFrom Written Tagged AllWhole
 read-from seq slots k a [] apart tags whole few w = ap these (sym (append-nil a))
 read-from seq slots k a (r ∷ t) apart tags whole few w =
     ap (λ (slot : List ℕ). readFrom (length t) (suc k) seq slots (withSlot seq slot (these a))) (w .0)
     ∙ ap (readFrom (length t) (suc k) seq slots) (slot-new seq r a (whole .0) (tags .0) (apart-before r a t apart) (omega arith))
-    ∙ read-from seq slots (suc k) (a ++ (r ∷ [])) t (subst Apart (sym (append-snoc a r t)) apart) (tags .1) (whole .1) (omega (arith, length-append a (r ∷ []))) (w .1)
+    ∙ read-from seq slots (suc k) (a ++ (r ∷ [])) t (subst Apart (sym (append-snoc a r t)) apart) (tags .1) (whole .1)
+    (omega (arith, length-append a (r ∷ []))) (w .1)
     ∙ ap these (append-snoc a r t)
 
-pub read-written : (seq : ℕ) (slots : ℕ → List ℕ) (t : List Raw) → Proper t → Written seq slots 1 t → readFrom (length t) 1 seq slots (these []) ≡ these t
+pub read-written : (seq : ℕ) (slots : ℕ → List ℕ) (t : List Raw) → Proper t → Written seq slots 1 t
+    → readFrom (length t) 1 seq slots (these []) ≡ these t
 read-written seq slots t p w = read-from seq slots 1 [] t (keys-apart t (p .keyed)) (keys-tagged t (p .keyed)) (p .whole) (omega (arith, p .few)) w
 
 -- ---- what is read from bytes is a table that a log may hold
@@ -231,7 +239,8 @@ module _ (seq : ℕ) (slots : ℕ → List ℕ) (bytes : (k : ℕ) → T (areByt
   one-proper k tooMany p = tt
   one-proper k (these t) p = go (decoded-or seq (slots k))
     where
-      room : decoded seq (slots k) ≡ some (rawOf (slots k)) → (b : Bool) → hasRoom limit (rawOf (slots k)) t ≡ b → ProperRead (pick b (these (absorbed (rawOf (slots k)) t)) tooMany)
+      room : decoded seq (slots k) ≡ some (rawOf (slots k)) → (b : Bool) → hasRoom limit (rawOf (slots k)) t ≡ b
+          → ProperRead (pick b (these (absorbed (rawOf (slots k)) t)) tooMany)
       room e true h = let w = read-whole seq (slots k) (rawOf (slots k)) (bytes k) e in absorb-proper (rawOf (slots k)) t (w .0) (w .1) h p
       room e false h = tt
 

@@ -20,7 +20,8 @@ use Rattle.crc.specs.Register.{crc32Of}
 use Rattle.crc.proofs.RegisterBounds.{crc-lt}
 use Rattle.codec.specs.declared.Raw.{Raw}
 use Rattle.codec.specs.declared.Header.the-variants.{Valid, Invalid}
-use Rattle.codec.specs.Slots.{sealed, crcIn, headerBytes, headerSlot, isHeader, headerOf, crcUnder, bytesOf, rawOf, slotOf, isRecordWith, some, none, decodedWith, decoded}
+use Rattle.codec.specs.Slots.{sealed, crcIn, headerBytes, headerSlot, isHeader, headerOf, crcUnder, bytesOf, rawOf, slotOf, isRecordWith}
+use Rattle.codec.specs.Slots.{some, none, decodedWith, decoded}
 use Rattle.codec.proofs.SlotsRoundTrip.{sealed-length, sealed-bytes, slot-parts, Sealed, decode-sealed, header-read, header-sealed}
 use Rattle.flash.specs.Run.{landed}
 use Rattle.flash.proofs.RunLanding.{landed-blank}
@@ -63,7 +64,8 @@ module _ (seq : ℕ) where
   unfolding headerSlot
   header-bytes fits =
       let front : T (areBytes (headerBytes seq)) = bytes-append (leBytes 4 seq) (2 ∷ 0 ∷ 0 ∷ 0 ∷ []) (seq-bytes seq fits) tt in
-      bytes-append (headerBytes seq) (leBytes 4 (crc32Of (headerBytes seq))) front (le-bytes 4 (crc32Of (headerBytes seq)) (crc-lt (headerBytes seq) front))
+      bytes-append (headerBytes seq) (leBytes 4 (crc32Of (headerBytes seq))) front
+      (le-bytes 4 (crc32Of (headerBytes seq)) (crc-lt (headerBytes seq) front))
 
 -- ---- a slot that was cut
 -- what lands on a blank slot before the cut
@@ -110,7 +112,12 @@ module _ (slot : List ℕ) (size : length slot ≡ 16) (k : ℕ) (most : k ≤ 1
   unfolding leNumber
   cut-check h =
       ap leNumber (sym (read-part 4 12 (cutAt k slot) (omega (arith, cut-length))))
-      ∙ rw (cut-high 12 h (omega arith), cut-high 13 (omega arith) (omega arith), cut-high 14 (omega arith) (omega arith), cut-high 15 (omega arith) (omega arith))
+      ∙ rw (
+        cut-high 12 h (omega arith),
+        cut-high 13 (omega arith) (omega arith),
+        cut-high 14 (omega arith) (omega arith),
+        cut-high 15 (omega arith) (omega arith),
+      )
 
 -- ---- records
 -- a slot is no record, or the one in its bytes
@@ -122,7 +129,8 @@ decoded-or seq slot = go (isRecordWith (crcUnder seq (take 12 slot)) slot)
     go true = inr refl
     go false = inl refl
 
-module _ (seq : ℕ) (fits : seq < 2 ^ 32) (r : Raw) (w : Whole r) (k : ℕ) (most : k ≤ 16) (unlucky : (m : ChanceMatch seq (slotOf seq r)) → m .k ≡ k → ⊥) where
+module _ (seq : ℕ) (fits : seq < 2 ^ 32) (r : Raw) (w : Whole r) (k : ℕ) (most : k ≤ 16)
+    (unlucky : (m : ChanceMatch seq (slotOf seq r)) → m .k ≡ k → ⊥) where
   abbrev slot : List ℕ
   slot = slotOf seq r
 
@@ -158,7 +166,8 @@ module _ (seq : ℕ) (fits : seq < 2 ^ 32) (r : Raw) (w : Whole r) (k : ℕ) (mo
   late : 12 ≤ k → (read : Raw) → Sealed seq (cutAt k slot) read → cutAt k slot ≡ slot
   unfolding slotOf
   late h read s =
-      let twelve-same : take 12 (cutAt k slot) ≡ bytesOf r = cut-low slot size k most 0 12 h ∙ sealed-bytes (crcUnder seq (bytesOf r)) (bytesOf r) (twelve seq fits r w) in
+      let twelve-same : take 12 (cutAt k slot) ≡ bytesOf r =
+      cut-low slot size k most 0 12 h ∙ sealed-bytes (crcUnder seq (bytesOf r)) (bytesOf r) (twelve seq fits r w) in
       let check-same : crcIn (cutAt k slot) ≡ crcUnder seq (bytesOf r) = s .check ∙ ap (crcUnder seq) (sym (s .bytes) ∙ twelve-same) in
       sym (slot-parts (cutAt k slot) (cut-length slot size k most) (cut-bytes slot size k most (slot-bytes seq fits r w)))
       ∙ ap₂ sealed check-same twelve-same
@@ -174,7 +183,8 @@ module _ (seq : ℕ) (fits : seq < 2 ^ 32) (r : Raw) (w : Whole r) (k : ℕ) (mo
   pub cut-record : (decoded seq (cutAt k slot) ≡ none) ⊎ (cutAt k slot ≡ slot)
   cut-record = go (decoded-or seq (cutAt k slot))
     where
-      go : (decoded seq (cutAt k slot) ≡ none) ⊎ (decoded seq (cutAt k slot) ≡ some (rawOf (cutAt k slot))) → (decoded seq (cutAt k slot) ≡ none) ⊎ (cutAt k slot ≡ slot)
+      go : (decoded seq (cutAt k slot) ≡ none) ⊎ (decoded seq (cutAt k slot) ≡ some (rawOf (cutAt k slot)))
+          → (decoded seq (cutAt k slot) ≡ none) ⊎ (cutAt k slot ≡ slot)
       go (inl e) = inl e
       go (inr e) = inr (whole (rawOf (cutAt k slot)) (decode-sealed seq (cutAt k slot) (rawOf (cutAt k slot)) e))
 
@@ -200,10 +210,16 @@ cut-header seq k most = go (leb 9 k) refl
     seq-there : 9 ≤ k → leNumber (part 4 4 (cutAt k (headerSlot seq))) ≡ seq
     seq-there h = ap leNumber (cut-low (headerSlot seq) (header-sixteen seq) k most 4 4 (omega arith)) ∙ header-seq seq
 
-    valid : 9 ≤ k → (b : Bool) → (pick b (Valid (leNumber (part 4 4 (cutAt k (headerSlot seq))))) Invalid ≡ Invalid) ⊎ (pick b (Valid (leNumber (part 4 4 (cutAt k (headerSlot seq))))) Invalid ≡ Valid seq)
+    valid : 9 ≤ k → (b : Bool)
+        → (pick b (Valid (leNumber (part 4 4 (cutAt k (headerSlot seq))))) Invalid ≡ Invalid)
+        ⊎ (pick b (Valid (leNumber (part 4 4 (cutAt k (headerSlot seq))))) Invalid ≡ Valid seq)
     valid h true = inr (ap Valid (seq-there h))
     valid h false = inl refl
 
     go : (b : Bool) → leb 9 k ≡ b → (headerOf 2 (cutAt k (headerSlot seq)) ≡ Invalid) ⊎ (headerOf 2 (cutAt k (headerSlot seq)) ≡ Valid seq)
     go true e = valid (leb-true 9 k e) (isHeader 2 (cutAt k (headerSlot seq)))
-    go false e = let h = leb-false 9 k e in inl (header-unversioned (cutAt k (headerSlot seq)) (cut-high (headerSlot seq) (header-sixteen seq) k most 8 (omega arith) (omega arith)))
+    go false e =
+        let h = leb-false 9 k e in
+        inl
+        (header-unversioned (cutAt k (headerSlot seq))
+        (cut-high (headerSlot seq) (header-sixteen seq) k most 8 (omega arith) (omega arith)))

@@ -28,7 +28,8 @@ use Rattle.demands.proofs.WearLaws.{paid-on, commit-paid, append-paid, 
 use Rattle.demands.proofs.CallsCourses.{Course, refusal, given, appends, formats, anchors, call-course}
 
 -- what was paid for and is within bounds, from a flash that nothing was used of
-wears-by : (image : List ℕ) (plan : Plan) (o : Outcome) (p e : ℕ) → p ≤ 8000 → e ≤ 65536 → p + e < 73536 → Paid (flashOf image plan) (o .flash) → Within p e (flashOf image plan) (o .flash) → CutIsDead (o .flash) → Wears plan o
+wears-by : (image : List ℕ) (plan : Plan) (o : Outcome) (p e : ℕ) → p ≤ 8000 → e ≤ 65536 → p + e < 73536
+    → Paid (flashOf image plan) (o .flash) → Within p e (flashOf image plan) (o .flash) → CutIsDead (o .flash) → Wears plan o
 wears-by image plan o p e h k few paid w dead = record {
   limited = paid .limited;
   units = λ l. paid .units l ∙ omega arith;
@@ -76,15 +77,19 @@ module _ (image : List ℕ) (log : Log) (plan : Plan) where
       (append-costs (joined r (recordsOf log)) n few s seq head next r f (placed .within) most)
       (append-spent n s seq head next r (joined r (recordsOf log)) f (placed .within) (placed .high) uncut)
   course-wears o (formats fits some e new most) =
-      wears-by image plan o 2304 65536 (omega arith) (omega arith) (omega arith) (commit-paid n n new n 0 WriteError Unformatted next f some) (first-costs new n few Unformatted next f most)
+      wears-by image plan o 2304 65536 (omega arith) (omega arith) (omega arith)
+      (commit-paid n n new n 0 WriteError Unformatted next f some) (first-costs new n few Unformatted next f most)
       (commit-spent n n new n 0 WriteError Unformatted next f some uncut)
   course-wears o (anchors fits some e d s seq within z r value) =
       let w = commitFirst n [] Unformatted next f in
       let none : length {A = Raw} [] ≤ 8 = omega arith in
       wears-by image plan o 2352 65536 (omega arith) (omega arith) (omega arith)
-      (paid-on f (w .flash) (o .flash) (commit-paid n n [] n 0 WriteError Unformatted next f some) (append-paid n s seq 1 (w .next) r (joined r []) (w .flash) within (omega arith)))
-      (within-on 2304 65536 48 0 f (w .flash) (o .flash) (first-costs [] n few Unformatted next f none) (append-light n s seq 1 (w .next) r (joined r []) (w .flash) (omega arith)))
-      (append-spent n s seq 1 (w .next) r (joined r []) (w .flash) within (omega arith) (commit-spent n n [] n 0 WriteError Unformatted next f some uncut))
+      (paid-on f (w .flash) (o .flash) (commit-paid n n [] n 0 WriteError Unformatted next f some)
+      (append-paid n s seq 1 (w .next) r (joined r []) (w .flash) within (omega arith)))
+      (within-on 2304 65536 48 0 f (w .flash) (o .flash) (first-costs [] n few Unformatted next f none)
+      (append-light n s seq 1 (w .next) r (joined r []) (w .flash) (omega arith)))
+      (append-spent n s seq 1 (w .next) r (joined r []) (w .flash) within (omega arith)
+      (commit-spent n n [] n 0 WriteError Unformatted next f some uncut))
 
   pub call-wears : (c : Call) → Wears plan (outcomeOf c image log plan)
   call-wears c = course-wears (outcomeOf c image log plan) (call-course image log plan c)

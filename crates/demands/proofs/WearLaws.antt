@@ -41,12 +41,16 @@ paid-on f g h a b = record {
 abbrev Any : ℕ → Type 0
 Any s = Unit {0}
 
-pub commit-paid : (n a : ℕ) (t : List Raw) (m s : ℕ) (last : Answer) (state : State) (next : ℕ) (f : Flash) → s < n → Paid f (commitFrom m n a s t last state next f .flash)
-commit-paid n a t = commit-trace Paid paid-none paid-on (λ s. Any) Any (λ s k new f _. program-paid s k new f) (λ s f _. erase-paid s f) n a t (λ s u z. tt) (λ s i u z l. tt)
+pub commit-paid : (n a : ℕ) (t : List Raw) (m s : ℕ) (last : Answer) (state : State) (next : ℕ) (f : Flash) → s < n
+    → Paid f (commitFrom m n a s t last state next f .flash)
+commit-paid n a t =
+    commit-trace Paid paid-none paid-on (λ s. Any) Any (λ s k new f _. program-paid s k new f) (λ s f _. erase-paid s f) n a t (λ s u z. tt)
+    (λ s i u z l. tt)
 
 pub append-paid : (n s seq head next : ℕ) (r : Raw) (t : List Raw) (f : Flash) → s < n → head ≤ 256 → Paid f (appendOf n s seq head next r t f .flash)
 append-paid n s seq head next r t f within high =
-    append-trace Paid paid-none paid-on (λ s. Any) Any (λ s k new f _. program-paid s k new f) (λ s f _. erase-paid s f) n s seq head next r t f within high (λ i l u z. tt) (λ x u z. tt) (λ x i u z l. tt)
+    append-trace Paid paid-none paid-on (λ s. Any) Any (λ s k new f _. program-paid s k new f) (λ s f _. erase-paid s f) n s seq head next r
+    t f within high (λ i l u z. tt) (λ x u z. tt) (λ x i u z l. tt)
 
 -- a flash that was cut is without power
 abbrev Spent : Flash → Flash → Type 0
@@ -58,12 +62,17 @@ spent-none f d = d
 spent-on : (f g h : Flash) → Spent f g → Spent g h → Spent f h
 spent-on f g h a b d = b (a d)
 
-pub commit-spent : (n a : ℕ) (t : List Raw) (m s : ℕ) (last : Answer) (state : State) (next : ℕ) (f : Flash) → s < n → Spent f (commitFrom m n a s t last state next f .flash)
-commit-spent n a t = commit-trace Spent spent-none spent-on (λ s. Any) Any (λ s k new f _. program-cut s k new f) (λ s f _. erase-cut s f) n a t (λ s u z. tt) (λ s i u z l. tt)
+pub commit-spent : (n a : ℕ) (t : List Raw) (m s : ℕ) (last : Answer) (state : State) (next : ℕ) (f : Flash) → s < n
+    → Spent f (commitFrom m n a s t last state next f .flash)
+commit-spent n a t =
+    commit-trace Spent spent-none spent-on (λ s. Any) Any (λ s k new f _. program-cut s k new f) (λ s f _. erase-cut s f) n a t
+    (λ s u z. tt) (λ s i u z l. tt)
 
-pub append-spent : (n s seq head next : ℕ) (r : Raw) (t : List Raw) (f : Flash) → s < n → head ≤ 256 → Spent f (appendOf n s seq head next r t f .flash)
+pub append-spent : (n s seq head next : ℕ) (r : Raw) (t : List Raw) (f : Flash) → s < n → head ≤ 256
+    → Spent f (appendOf n s seq head next r t f .flash)
 append-spent n s seq head next r t f within high =
-    append-trace Spent spent-none spent-on (λ s. Any) Any (λ s k new f _. program-cut s k new f) (λ s f _. erase-cut s f) n s seq head next r t f within high (λ i l u z. tt) (λ x u z. tt) (λ x i u z l. tt)
+    append-trace Spent spent-none spent-on (λ s. Any) Any (λ s k new f _. program-cut s k new f) (λ s f _. erase-cut s f) n s seq head next
+    r t f within high (λ i l u z. tt) (λ x u z. tt) (λ x i u z l. tt)
 
 -- ---- sectors
 -- of m sectors from s on, those that are not the one to avoid
@@ -86,9 +95,12 @@ module _ (t : List Raw) where
 
   -- one sector, and k more
   costs-on : (k : ℕ) (f g h : Flash) → Within one 4096 f g → Within (k * one) (k * 4096) g h → Within (suc k * one) (suc k * 4096) f h
-  costs-on k f g h a b = within-more (one + k * one) (4096 + k * 4096) (suc k * one) (suc k * 4096) f h (omega arith) (omega arith) (within-on one 4096 (k * one) (k * 4096) f g h a b)
+  costs-on k f g h a b =
+      within-more (one + k * one) (4096 + k * 4096) (suc k * one) (suc k * 4096) f h (omega arith) (omega arith)
+      (within-on one 4096 (k * one) (k * 4096) f g h a b)
 
-  commit-costs : (m n a s : ℕ) (last : Answer) (state : State) (next : ℕ) (f : Flash) → Costs (turns m n a s) f (commitFrom m n a s t last state next f)
+  commit-costs : (m n a s : ℕ) (last : Answer) (state : State) (next : ℕ) (f : Flash)
+      → Costs (turns m n a s) f (commitFrom m n a s t last state next f)
   unfolding commitFrom turns
   commit-costs zero n a s last state next f = costs-none 0 f
   commit-costs (suc m) n a s last state next f =
@@ -96,7 +108,9 @@ module _ (t : List Raw) where
       (λ e. rw e
       (by-test (Costs (suc (turns m n a (sectorAfter n s))) f) (eqb next seqMax) _ _ (λ _. costs-none (suc (turns m n a (sectorAfter n s))) f)
       (λ _. by-test (Costs (suc (turns m n a (sectorAfter n s))) f) (isDone (writeSector s next t f .answer)) _ _
-      (λ _. costs-on (turns m n a (sectorAfter n s)) f (writeSector s next t f .flash) (writeSector s next t f .flash) (sector-within s next t f) (costs-none (turns m n a (sectorAfter n s)) (writeSector s next t f .flash)))
+      (λ _.
+      costs-on (turns m n a (sectorAfter n s)) f (writeSector s next t f .flash) (writeSector s next t f .flash)
+      (sector-within s next t f) (costs-none (turns m n a (sectorAfter n s)) (writeSector s next t f .flash)))
       (λ _. costs-on (turns m n a (sectorAfter n s)) f (writeSector s next t f .flash) _ (sector-within s next t f)
       (commit-costs m n a (sectorAfter n s) (writeSector s next t f .answer) state (next + 1) (writeSector s next t f .flash))))))
 
@@ -104,7 +118,8 @@ turns-most : (m n a s : ℕ) → turns m n a s ≤ m
 unfolding turns
 turns-most zero n a s = omega arith
 turns-most (suc m) n a s =
-    by-test (λ (k : ℕ). k ≤ suc m) (eqb s a) (turns m n a (sectorAfter n s)) (suc (turns m n a (sectorAfter n s))) (λ e. omega (arith, turns-most m n a (sectorAfter n s))) (λ e. omega (arith, turns-most m n a (sectorAfter n s)))
+    by-test (λ (k : ℕ). k ≤ suc m) (eqb s a) (turns m n a (sectorAfter n s)) (suc (turns m n a (sectorAfter n s)))
+    (λ e. omega (arith, turns-most m n a (sectorAfter n s))) (λ e. omega (arith, turns-most m n a (sectorAfter n s)))
 
 -- k sectors lie between s and a, going round
 abbrev Round : ℕ → ℕ → ℕ → ℕ → Type 0
@@ -169,7 +184,8 @@ module _ (t : List Raw) (n : ℕ) (few : n ≤ 16) where
       let all : k * one t ≤ 16 * 144 = mul-le-mul fewer small in
       within-more (k * one t) (k * 4096) 2304 65536 f _ (omega arith) (omega arith) (commit-costs t n n n 0 WriteError state next f)
 
-  pub append-costs : (s seq head next : ℕ) (r : Raw) (f : Flash) → s < n → length t ≤ 32 → Within 7968 61440 f (appendOf n s seq head next r t f .flash)
+  pub append-costs : (s seq head next : ℕ) (r : Raw) (f : Flash) → s < n → length t ≤ 32
+      → Within 7968 61440 f (appendOf n s seq head next r t f .flash)
   unfolding appendOf
   append-costs s seq head next r f h most =
       let o = triesFrom 3 s head (slotOf seq r) WriteError f in
@@ -187,6 +203,7 @@ tries-fit (suc m) s head bytes last f h =
     (λ _. by-test (λ (o : SlotTries). o .full ≡ false) (isDone (program s head bytes f .answer)) _ _ (λ _. refl)
     (λ _. tries-fit m s (head + 1) bytes (program s head bytes f .answer) (program s head bytes f .flash) (omega arith)))
 
-pub append-light : (n s seq head next : ℕ) (r : Raw) (t : List Raw) (f : Flash) → head + 3 ≤ 256 → Within 48 0 f (appendOf n s seq head next r t f .flash)
+pub append-light : (n s seq head next : ℕ) (r : Raw) (t : List Raw) (f : Flash) → head + 3 ≤ 256
+    → Within 48 0 f (appendOf n s seq head next r t f .flash)
 unfolding appendOf
 append-light n s seq head next r t f h = rw (tries-fit 3 s head (slotOf seq r) WriteError f h) (tries-within 3 s head (slotOf seq r) WriteError f)

@@ -65,17 +65,21 @@ module _ (n : ℕ) (log : Log) (f : Flash) where
   appended-freed Unformatted i r value c = refl
   appended-freed Failed i r value c = refl
   appended-freed (Active s seq head) i r value c =
-      ap (λ (w : Written). writtenOutcome w value (joined r (recordsOf log)) (recordsOf log)) (append-freed n s seq head (log .«next_seq») r (joined r (recordsOf log)) f (i .0) (i .1) c)
+      ap (λ (w : Written). writtenOutcome w value (joined r (recordsOf log)) (recordsOf log))
+      (append-freed n s seq head (log .«next_seq») r (joined r (recordsOf log)) f (i .0) (i .1) c)
 
   performed-uncut : (d : Decision) → Inside n (log .state) → Uncut f (performed d n log f .flash)
   unfolding performed
-  performed-uncut d i = by-test (λ (o : Outcome). Uncut f (o .flash)) (d .write) _ _ (λ _. appended-uncut (log .state) i (d .rec) (d .value)) (λ _ c. c)
+  performed-uncut d i =
+      by-test (λ (o : Outcome). Uncut f (o .flash)) (d .write) _ _ (λ _. appended-uncut (log .state) i (d .rec) (d .value)) (λ _ c. c)
 
   performed-freed : (d : Decision) → Inside n (log .state) → Free (performed d n log) f
   unfolding performed
   performed-freed d i =
-      chosen freedOutcome (λ (o : Outcome). o .flash) (d .write) (appended (log .state) n (d .rec) (d .value) log f) (appended (log .state) n (d .rec) (d .value) log (freed f))
-      (record { answer = d .answer; value = d .value; log = log; flash = f }) (record { answer = d .answer; value = d .value; log = log; flash = freed f })
+      chosen freedOutcome (λ (o : Outcome). o .flash) (d .write) (appended (log .state) n (d .rec) (d .value) log f)
+      (appended (log .state) n (d .rec) (d .value) log (freed f))
+      (record { answer = d .answer; value = d .value; log = log; flash = f })
+      (record { answer = d .answer; value = d .value; log = log; flash = freed f })
       (appended-freed (log .state) i (d .rec) (d .value)) (λ _. refl)
 
   -- ---- a format, and the first anchor
@@ -91,7 +95,8 @@ fits-inside n log fits = go (log .state) refl
     go (Active s seq head) e = let p = fits-active n log fits s seq head e in (p .within, p .high)
 
 -- the log that a format leaves
-formatted-inside : (n : ℕ) (log : Log) (f : Flash) → 0 < n → isDone (formatted [] n log f .answer) ≡ true → Inside n (formatted [] n log f .log .state)
+formatted-inside : (n : ℕ) (log : Log) (f : Flash) → 0 < n → isDone (formatted [] n log f .answer) ≡ true
+    → Inside n (formatted [] n log f .log .state)
 formatted-inside n log f some d =
     let fresh = commit-fresh n n n 0 [] WriteError (log .state) (log .«next_seq») f some refl d in
     subst (Inside n) (sym (fresh .state-is)) (fresh .within, omega arith)
@@ -104,13 +109,15 @@ module _ (new : Anchor) (n : ℕ) (log : Log) (f : Flash) (some : 0 < n) where
       ends : Outcome → Outcome
       ends o = pick (isDone (o .answer)) (anchorCall new n (o .log) (o .flash)) o
 
-      go : (o p : Outcome) → (o .flash .cut ≡ false → p ≡ freedOutcome o) → (isDone (o .answer) ≡ true → Inside n (o .log .state)) → ends o .flash .cut ≡ false → ends p ≡ freedOutcome (ends o)
+      go : (o p : Outcome) → (o .flash .cut ≡ false → p ≡ freedOutcome o) → (isDone (o .answer) ≡ true → Inside n (o .log .state))
+          → ends o .flash .cut ≡ false → ends p ≡ freedOutcome (ends o)
       go o p same inside = by (isDone (o .answer)) refl
         where
           d : Decision
           d = whenActive (o .log .state) (anchorDecision (heldOf anchorTag 0 (recordsOf (o .log))) (roomFor anchorTag 0 (recordsOf (o .log))) new)
 
-          by : (b : Bool) → isDone (o .answer) ≡ b → pick b (anchorCall new n (o .log) (o .flash)) o .flash .cut ≡ false → ends p ≡ freedOutcome (pick b (anchorCall new n (o .log) (o .flash)) o)
+          by : (b : Bool) → isDone (o .answer) ≡ b → pick b (anchorCall new n (o .log) (o .flash)) o .flash .cut ≡ false
+              → ends p ≡ freedOutcome (pick b (anchorCall new n (o .log) (o .flash)) o)
           by true e c =
               ap ends (same (performed-uncut n (o .log) (o .flash) d (inside e) c))
               ∙ ap (λ (b : Bool). pick b (anchorCall new n (o .log) (freed (o .flash))) (freedOutcome o)) e
@@ -119,7 +126,8 @@ module _ (new : Anchor) (n : ℕ) (log : Log) (f : Flash) (some : 0 < n) where
 
   anchored-freed : (z : State) → Inside n (log .state) → Free (anchored z new n log) f
   anchored-freed Unformatted i =
-      chosen freedOutcome (λ (o : Outcome). o .flash) (isFirst new) (anchoredFirst new n (formatted [] n log f)) (anchoredFirst new n (formatted [] n log (freed f)))
+      chosen freedOutcome (λ (o : Outcome). o .flash) (isFirst new) (anchoredFirst new n (formatted [] n log f))
+      (anchoredFirst new n (formatted [] n log (freed f)))
       (refused NotFormatted log f) (refused NotFormatted log (freed f)) first-freed (λ _. refl)
   anchored-freed Failed i = λ _. refl
   anchored-freed (Active s seq head) i = performed-freed n log f _ i
@@ -133,38 +141,51 @@ module _ (image : List ℕ) (log : Log) (plan : Plan) where
   f = flashOf image plan
 
   entered-freed : (known : Bool) (call : ℕ → Log → Flash → Outcome) → ((n ≡ 0 → ⊥) → logFits n log ≡ true → Free (call n log) f)
-      → entered image log plan known call .flash .cut ≡ false → entered image log (unlimited plan) known call ≡ freedOutcome (entered image log plan known call)
+      → entered image log plan known call .flash .cut ≡ false
+      → entered image log (unlimited plan) known call ≡ freedOutcome (entered image log plan known call)
   unfolding entered
   entered-freed known call free = go (isDone (entryAnswer n log known)) refl
     where
       go : (b : Bool) → isDone (entryAnswer n log known) ≡ b → pick b (call n log f) (refused (entryAnswer n log known) log f) .flash .cut ≡ false
-          → pick b (call n log (freed f)) (refused (entryAnswer n log known) log (freed f)) ≡ freedOutcome (pick b (call n log f) (refused (entryAnswer n log known) log f))
+          → pick b (call n log (freed f)) (refused (entryAnswer n log known) log (freed f))
+          ≡ freedOutcome (pick b (call n log f) (refused (entryAnswer n log known) log f))
       go true e = let passed = let-in-by n log known e in free (passed .0) (passed .1)
       go false e = λ _. refl
 
   keyed-freed : (known : Bool) (tag id : ℕ) (d : OptRaw → Bool → Decision) → entered image log plan known (decided tag id d) .flash .cut ≡ false
       → entered image log (unlimited plan) known (decided tag id d) ≡ freedOutcome (entered image log plan known (decided tag id d))
   keyed-freed known tag id d =
-      entered-freed known (decided tag id d) (λ some fits. performed-freed n log f (whenActive (log .state) (d (heldOf tag id (recordsOf log)) (roomFor tag id (recordsOf log)))) (fits-inside n log fits))
+      entered-freed known (decided tag id d)
+      (λ some fits.
+      performed-freed n log f (whenActive (log .state) (d (heldOf tag id (recordsOf log)) (roomFor tag id (recordsOf log))))
+      (fits-inside n log fits))
 
-  format-freed : (seeds : List Seed) (count : ℕ) → formatOf image log plan seeds count .flash .cut ≡ false → formatOf image log (unlimited plan) seeds count ≡ freedOutcome (formatOf image log plan seeds count)
+  format-freed : (seeds : List Seed) (count : ℕ) → formatOf image log plan seeds count .flash .cut ≡ false
+      → formatOf image log (unlimited plan) seeds count ≡ freedOutcome (formatOf image log plan seeds count)
   unfolding formatOf
   format-freed seeds count =
-      entered-freed (seedsKnown seeds count) (λ (n : ℕ) (l : Log) (f : Flash). formatOn (l .state) (seedTable seeds count) n l f) (λ some fits. go (omega arith) (log .state))
+      entered-freed (seedsKnown seeds count) (λ (n : ℕ) (l : Log) (f : Flash). formatOn (l .state) (seedTable seeds count) n l f)
+      (λ some fits. go (omega arith) (log .state))
     where
       go : 0 < n → (z : State) → Free (formatOn z (seedTable seeds count) n log) f
       go some Unformatted = formatted-freed n log f (seedTable seeds count) some
       go some Failed = λ _. refl
       go some (Active s seq head) = λ _. refl
 
-  anchor-freed : (new : Anchor) → putAnchorOf image log plan new .flash .cut ≡ false → putAnchorOf image log (unlimited plan) new ≡ freedOutcome (putAnchorOf image log plan new)
+  anchor-freed : (new : Anchor) → putAnchorOf image log plan new .flash .cut ≡ false
+      → putAnchorOf image log (unlimited plan) new ≡ freedOutcome (putAnchorOf image log plan new)
   unfolding putAnchorOf
   anchor-freed new =
-      entered-freed true (λ (n : ℕ) (l : Log) (f : Flash). anchored (l .state) new n l f) (λ some fits. anchored-freed new n log f (omega arith) (log .state) (fits-inside n log fits))
+      entered-freed true (λ (n : ℕ) (l : Log) (f : Flash). anchored (l .state) new n l f)
+      (λ some fits. anchored-freed new n log f (omega arith) (log .state) (fits-inside n log fits))
 
-  call-freed : (c : Call) → outcomeOf c image log plan .flash .cut ≡ false → outcomeOf c image log (unlimited plan) ≡ freedOutcome (outcomeOf c image log plan)
+  call-freed : (c : Call) → outcomeOf c image log plan .flash .cut ≡ false
+      → outcomeOf c image log (unlimited plan) ≡ freedOutcome (outcomeOf c image log plan)
   call-freed =
-      by-kind (λ (x : Shape). x .outcome image log plan .flash .cut ≡ false → x .outcome image log (unlimited plan) ≡ freedOutcome (x .outcome image log plan))
+      by-kind
+      (λ (x : Shape).
+      x .outcome image log plan .flash .cut ≡ false
+      → x .outcome image log (unlimited plan) ≡ freedOutcome (x .outcome image log plan))
       (λ typed known tag id d r k. keyed-freed known tag id d) anchor-freed format-freed
 
   pub units-to-spare : (c : Call) → 73536 ≤ plan .units → Alike (outcomeOf c image log (unlimited plan)) (outcomeOf c image log plan)

@@ -1,4 +1,5 @@
--- Demand 1: every refusal and its order, and that nothing is changed by one: of the calls that can write, of those that only read the log, of opening.
+-- Demand 1: every refusal and its order, and that nothing is changed by one: of the calls that can write, of those that only read the log,
+-- of opening.
 use mathlib.Core.Path.{_≡_}
 use mathlib.Core.Bool.{Bool, true, false}
 use mathlib.Core.List.{List, []}
@@ -7,7 +8,8 @@ use lib.ListN.{length}
 use Rattle.basics.specs.Choice.{pick}
 use Rattle.basics.specs.Answers.{isDone}
 use Rattle.basics.specs.declared.Answer.{Answer}
-use Rattle.basics.specs.declared.Answer.the-variants.{Done, BadImage, BadLog, BadId, NotFormatted, ReadError, WriteError, EraseError, KeystoreFull, IntegrityFailure}
+use Rattle.basics.specs.declared.Answer.the-variants.{Done, BadImage, BadLog, BadId, NotFormatted, ReadError, WriteError, EraseError}
+use Rattle.basics.specs.declared.Answer.the-variants.{KeystoreFull, IntegrityFailure}
 use Rattle.ids.specs.Ids.{isCredential, isValue}
 use Rattle.flash.specs.declared.Plan.{Plan}
 use Rattle.flash.specs.Image.{sectorsIn}
@@ -56,7 +58,8 @@ knownIn (spend credential current) = isCredential credential
 knownIn (set-tries credential tries) = isCredential credential
 knownIn (advance-lamport latest) = true
 
--- "4 NotFormatted, 5 ReadError: log Unformatted, log Failed; format gives 6 instead of 5; .. put_anchor with head_seq and head_slot both 0 doesn't give 4"
+-- "4 NotFormatted, 5 ReadError: log Unformatted, log Failed; format gives 6 instead of 5; .. put_anchor with head_seq and head_slot both 0
+-- doesn't give 4"
 abbrev pub byState : Answer → Answer → Answer → State → Answer
 byState unformatted failed active Unformatted = unformatted
 byState unformatted failed active Failed = failed
@@ -74,12 +77,16 @@ stateAnswer (advance-lamport latest) z = byState NotFormatted ReadError Done z
 -- "Order: 1, 2, 3, then the Rust's order."
 pub record Refuses (c : Call) (image : List ℕ) (log : Log) (plan : Plan) : Type 0 where
   pub no-image : sectorsIn (length image) ≡ 0 → outcomeOf c image log plan ≡ refused BadImage log (flashOf image plan)
-  pub bad-log : (sectorsIn (length image) ≡ 0 → ⊥) → logFits (sectorsIn (length image)) log ≡ false → outcomeOf c image log plan ≡ refused BadLog log (flashOf image plan)
-  pub bad-id : (sectorsIn (length image) ≡ 0 → ⊥) → logFits (sectorsIn (length image)) log ≡ true → knownIn c ≡ false → outcomeOf c image log plan ≡ refused BadId log (flashOf image plan)
-  pub not-ready : (sectorsIn (length image) ≡ 0 → ⊥) → logFits (sectorsIn (length image)) log ≡ true → knownIn c ≡ true → isDone (stateAnswer c (log .state)) ≡ false
+  pub bad-log : (sectorsIn (length image) ≡ 0 → ⊥) → logFits (sectorsIn (length image)) log ≡ false
+      → outcomeOf c image log plan ≡ refused BadLog log (flashOf image plan)
+  pub bad-id : (sectorsIn (length image) ≡ 0 → ⊥) → logFits (sectorsIn (length image)) log ≡ true → knownIn c ≡ false
+      → outcomeOf c image log plan ≡ refused BadId log (flashOf image plan)
+  pub not-ready : (sectorsIn (length image) ≡ 0 → ⊥) → logFits (sectorsIn (length image)) log ≡ true → knownIn c ≡ true
+      → isDone (stateAnswer c (log .state)) ≡ false
       → outcomeOf c image log plan ≡ refused (stateAnswer c (log .state)) log (flashOf image plan)
   -- log, plan, image and wear figures as they came, and no value
-  pub unchanged : leavesAll (outcomeOf c image log plan .answer) ≡ true → outcomeOf c image log plan ≡ refused (outcomeOf c image log plan .answer) log (flashOf image plan)
+  pub unchanged : leavesAll (outcomeOf c image log plan .answer) ≡ true
+      → outcomeOf c image log plan ≡ refused (outcomeOf c image log plan .answer) log (flashOf image plan)
 
 -- ---- the calls that only read the log: they take no image and no plan and hand back no log, so there is nothing that a refusal could change
 pub data Asked : Type 0 where
@@ -138,7 +145,8 @@ stateReply (load credential exists fresh) z = Done
 pub record RefusesAsked (q : Asked) (log : Log) : Type 0 where
   pub bad-log : logFits 16 log ≡ false → replyOf q log ≡ turnedAway q BadLog
   pub bad-id : logFits 16 log ≡ true → knownTo q ≡ false → replyOf q log ≡ turnedAway q BadId
-  pub not-ready : logFits 16 log ≡ true → knownTo q ≡ true → isDone (stateReply q (log .state)) ≡ false → replyOf q log ≡ turnedAway q (stateReply q (log .state))
+  pub not-ready : logFits 16 log ≡ true → knownTo q ≡ true → isDone (stateReply q (log .state)) ≡ false
+      → replyOf q log ≡ turnedAway q (stateReply q (log .state))
 
 -- ---- opening: "1 BadImage: open gives a Failed log with no records and next_seq 1"
 abbrev pub RefusesImage : List ℕ → Type 0

@@ -18,7 +18,8 @@ pub record FindsAgain (w : World) : Type 0 where
 pub record WakesWith (w : World) (m : Made) : Type 0 where
   -- cut or not, the table of before or the one after; of a call that was cut the chance match is ruled out
   pub either : (outcome m w .flash .cut ≡ true → NoChance (m .call) (w .image) (w .log) (m .plan))
-      → NoEffect (m .call) (w .log) (seen (openOf (outcome m w .flash .image) .log)) ⊎ (tableOf (openOf (outcome m w .flash .image) .log) ≡ tableAfter (m .call) (w .image) (w .log))
+      → NoEffect (m .call) (w .log) (seen (openOf (outcome m w .flash .image) .log))
+      ⊎ (tableOf (openOf (outcome m w .flash .image) .log) ≡ tableAfter (m .call) (w .image) (w .log))
   -- the latter if the call answered 0
   pub success : isDone (outcome m w .answer) ≡ true → tableOf (openOf (outcome m w .flash .image) .log) ≡ tableAfter (m .call) (w .image) (w .log)
   -- and a call that was cut never answers 0

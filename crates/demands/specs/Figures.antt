@@ -50,14 +50,18 @@ newTable c log = joined (decisionOf c (recordsOf log) .rec) (recordsOf log)
 -- a call that decides to write a record, on a flash that refuses nothing
 pub record WritesWell (c : Call) (image : List ℕ) (log : Log) : Type 0 where
   pub append : knownIn c ≡ true → (s seq head : ℕ) → log .state ≡ Active s seq head → decisionOf c (recordsOf log) .write ≡ true → head < 256
-      → Reports (decisionOf c (recordsOf log) .value) (logOf (Active s seq (head + 1)) (log .«next_seq») (newTable c log)) 16 0 (outcomeOf c image log healthy)
-  pub commit : knownIn c ≡ true → (s seq head : ℕ) → log .state ≡ Active s seq head → decisionOf c (recordsOf log) .write ≡ true → head ≡ 256 → 1 < sectorsIn (length image) → (log .«next_seq» ≡ seqMax → ⊥)
+      → Reports (decisionOf c (recordsOf log) .value) (logOf (Active s seq (head + 1)) (log .«next_seq») (newTable c log)) 16 0
+      (outcomeOf c image log healthy)
+  pub commit : knownIn c ≡ true → (s seq head : ℕ) → log .state ≡ Active s seq head → decisionOf c (recordsOf log) .write ≡ true
+      → head ≡ 256 → 1 < sectorsIn (length image) → (log .«next_seq» ≡ seqMax → ⊥)
       → Reports (decisionOf c (recordsOf log) .value)
-      (logOf (Active (sectorAfter (sectorsIn (length image)) s) (log .«next_seq») (length (newTable c log) + 1)) (log .«next_seq» + 1) (newTable c log))
+      (logOf (Active (sectorAfter (sectorsIn (length image)) s) (log .«next_seq») (length (newTable c log) + 1)) (log .«next_seq» + 1)
+      (newTable c log))
       (16 * (length (newTable c log) + 1)) 4096 (outcomeOf c image log healthy)
 
 -- a format on one
 abbrev pub FormatsWell : List Seed → ℕ → List ℕ → Log → Type 0
 FormatsWell seeds count image log =
     knownIn (format seeds count) ≡ true → log .state ≡ Unformatted → (log .«next_seq» ≡ seqMax → ⊥)
-    → Reports 0 (logOf (Active 0 (log .«next_seq») (length (seedTable seeds count) + 1)) (log .«next_seq» + 1) (seedTable seeds count)) (16 * (length (seedTable seeds count) + 1)) 4096 (outcomeOf (format seeds count) image log healthy)
+    → Reports 0 (logOf (Active 0 (log .«next_seq») (length (seedTable seeds count) + 1)) (log .«next_seq» + 1) (seedTable seeds count))
+    (16 * (length (seedTable seeds count) + 1)) 4096 (outcomeOf (format seeds count) image log healthy)

@@ -44,7 +44,8 @@ triesWoken w credential current plan = triesIn credential current (woken w (aSpe
 pub record KeepsTries (w : World) (credential current : ℕ) (plan : Plan) : Type 0 where
   -- pulled or not, the tries it had or one fewer
   pub either : Lucky w (aSpend credential current plan)
-      → (triesWoken w credential current plan ≡ triesIn credential current (w .log)) ⊎ (triesWoken w credential current plan + 1 ≡ triesIn credential current (w .log))
+      → (triesWoken w credential current plan ≡ triesIn credential current (w .log))
+      ⊎ (triesWoken w credential current plan + 1 ≡ triesIn credential current (w .log))
   -- a spend that answered 0 while tries were left has taken one
   pub taken : isDone (outcome (aSpend credential current plan) w .answer) ≡ true → 0 < triesIn credential current (w .log)
       → triesWoken w credential current plan + 1 ≡ triesIn credential current (w .log)
@@ -67,7 +68,8 @@ aSet credential new plan = record { call = set-tries credential new; plan = plan
 pub record KeepsSet (w : World) (credential new : ℕ) (plan : Plan) : Type 0 where
   -- pulled or not, the counter from before, none where there was none, or one by which the new number of tries remains
   pub either : Lucky w (aSet credential new plan)
-      → (counterHeld credential (woken w (aSet credential new plan)) ≡ counterHeld credential (w .log)) ⊎ Has credential new (woken w (aSet credential new plan))
+      → (counterHeld credential (woken w (aSet credential new plan)) ≡ counterHeld credential (w .log))
+      ⊎ Has credential new (woken w (aSet credential new plan))
   -- the latter if it answered 0
   pub success : isDone (outcome (aSet credential new plan) w .answer) ≡ true → Has credential new (woken w (aSet credential new plan))
 

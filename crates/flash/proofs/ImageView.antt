@@ -153,7 +153,8 @@ module _ (n : ℕ) (image : List ℕ) (fits : Fits n image) (s : ℕ) (in-image 
   pub erased-all : allAre 0xFF (sectorAt (withSector s (blanked 4096 (sectorAt image s)) image) s) ≡ true
   erased-all =
       ap (allAre 0xFF)
-      (with-sector-here (blanked 4096 (sectorAt image s)) (blanked-size 4096 (omega arith)) ∙ blanked-all 4096 (sectorAt image s) (omega (arith, sector-length)))
+      (with-sector-here (blanked 4096 (sectorAt image s)) (blanked-size 4096 (omega arith))
+      ∙ blanked-all 4096 (sectorAt image s) (omega (arith, sector-length)))
       ∙ all-replicate 4096 0xFF
 
 -- ---- bytes

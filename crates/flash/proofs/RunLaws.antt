@@ -20,9 +20,12 @@ use Rattle.flash.specs.declared.Plan.{Plan}
 use Rattle.flash.specs.Image.{slotAt, sectorAt, withSlot, withSector}
 use Rattle.flash.specs.Power.{powered, charged, oneUsedUp, toProgram, afterProgram, programCut, toErase, afterErase, eraseCut}
 use Rattle.flash.specs.Run.{Flash, Stepped, landed, blanked, programAnswer, eraseAnswer, program, erase}
-use Rattle.flash.proofs.PowerLaws.{Enough, Short, drained, powered-short, charged-short, powered-enough, enough-or-short, powered-most, charged-units}
+use Rattle.flash.proofs.PowerLaws.{Enough, Short, drained, powered-short, charged-short, powered-enough, enough-or-short}
+use Rattle.flash.proofs.PowerLaws.{powered-most, charged-units}
 use Rattle.flash.proofs.RunLanding.{landed-length, landed-none, landed-bytes, landed-new, blanked-length, blanked-all, blanked-bytes}
-use Rattle.flash.proofs.ImageView.{Fits, slot-length, slot-bytes, with-slot-same, with-slot-length, with-slot-beside, with-slot-apart, with-slot-bytes, sector-most, sector-length, sector-bytes, with-sector-length, with-sector-apart, with-sector-bytes, erased-none}
+use Rattle.flash.proofs.ImageView.{Fits, slot-length, slot-bytes, with-slot-same, with-slot-length, with-slot-beside}
+use Rattle.flash.proofs.ImageView.{with-slot-apart, with-slot-bytes, sector-most, sector-length, sector-bytes, with-sector-length}
+use Rattle.flash.proofs.ImageView.{with-sector-apart, with-sector-bytes, erased-none}
 
 -- ---- program
 -- what a program of slot k of sector s comes to
@@ -140,7 +143,8 @@ erase-outcome s f = go (f .plan .«refuse_erase») refl
     all = ap (allAre 0xFF) (blanked-all 4096 (sectorAt (f .image) s) (sector-most (f .image) s)) ∙ all-replicate 4096 0xFF
 
     powers : f .plan .«refuse_erase» ≡ false → Enough (f .plan) 4096 ⊎ Short (f .plan) 4096 → Erased s f (eraseBy s f false (powered (f .plan) 4096))
-    powers e (inl h) = subst (λ (n : ℕ). Erased s f (eraseBy s f false n)) (sym (powered-enough (f .plan) 4096 h)) (rw (all, or-false) (erase-whole e h))
+    powers e (inl h) =
+        subst (λ (n : ℕ). Erased s f (eraseBy s f false n)) (sym (powered-enough (f .plan) 4096 h)) (rw (all, or-false) (erase-whole e h))
     powers e (inr h) =
         rw (charged-short (f .plan) 4096 h, powered-short (f .plan) 4096 h, lt-ltb (f .plan .units) 4096 (h .1), or-true) (erase-stopped e h)
 

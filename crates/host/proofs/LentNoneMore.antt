@@ -35,23 +35,46 @@ module _ (D : Answering) (J : Lending D ([])) where
     lifetimes = 2;
     outlives = [];
     params = 3;
-    locals = local (D .single .ty) valueLocal ∷ local (imageTy (named 0)) valueLocal ∷ local (J .single .ty) valueLocal ∷ local planRef valueLocal ∷ work D;
+    locals =
+        local (D .single .ty) valueLocal ∷ local (imageTy (named 0)) valueLocal ∷ local (J .single .ty) valueLocal
+        ∷ local planRef valueLocal ∷ work D;
     body = body D (J .callee) 3 ([]);
   }
 
-  module _ {M : Type 1} (𝓤 : URA M) (H : Heap 𝓤) (A : Atoms 𝓤) (W : Given 𝓤 H A) (C : Calls 𝓤 H) (Λ : Loops 𝓤 H) (fm : FmC 𝓤 H (W .laws) C) (known : Triple 𝓤 (C (J .callee)) (Called D Rs J 𝓤 H A)) (known-read : Triple 𝓤 (C (D .reader)) (Read D 𝓤 H A)) where
+  module _ {M : Type 1} (𝓤 : URA M) (H : Heap 𝓤) (A : Atoms 𝓤) (W : Given 𝓤 H A) (C : Calls 𝓤 H) (Λ : Loops 𝓤 H) (fm : FmC 𝓤 H (W .laws) C)
+      (known : Triple 𝓤 (C (J .callee)) (Called D Rs J 𝓤 H A)) (known-read : Triple 𝓤 (C (D .reader)) (Read D 𝓤 H A)) where
     walk : (L : Loans) (x : J .X .Denot) → Room u8 (length (L .image .now)) → Is (J .X) x (J .single .val x ∷ [])
-        → ent 𝓤 (onEntry 𝓤 H A (lends D Rs J .signature) (L .κ, (L .κ′, tt)) (L .q, (L .q′, tt)) (L .image, (x, (L .plan, tt))) (sliceOf L ∷ [], (J .single .val x ∷ [], (vptr (L .plan .ptr .0) (L .plan .ptr .1) ∷ [], tt)))) (WpFn 𝓤 H C Λ function (sliceOf L ∷ J .single .val x ∷ vptr (L .plan .ptr .0) (L .plan .ptr .1) ∷ []) (Post D Rs J 𝓤 H A W L x tt))
+        → ent 𝓤
+        (onEntry 𝓤 H A (lends D Rs J .signature) (L .κ, (L .κ′, tt)) (L .q, (L .q′, tt)) (L .image, (x, (L .plan, tt)))
+        (sliceOf L ∷ [], (J .single .val x ∷ [], (vptr (L .plan .ptr .0) (L .plan .ptr .1) ∷ [], tt))))
+        (WpFn 𝓤 H C Λ function (sliceOf L ∷ J .single .val x ∷ vptr (L .plan .ptr .0) (L .plan .ptr .1) ∷ [])
+        (Post D Rs J 𝓤 H A W L x tt))
     walk L x room is =
-        qed W ((‵ (flft (L .κ) (L .q)) ⊛ ‵ (flft (L .κ′) (L .q′)) ⊛ ‵ ftrue) ∷ ‵ (owns (MutSlice (named 0) (L .κ) u8 ∷ J .X ∷ MutRef (named 1) (L .κ′) PlanR ∷ []) (L .image, (x, (L .plan, tt))) (sliceOf L ∷ [], (J .single .val x ∷ [], (vptr (L .plan .ptr .0) (L .plan .ptr .1) ∷ [], tt)))) ∷ []) ∵ enter ! C Λ function (sliceOf L ∷ J .single .val x ∷ vptr (L .plan .ptr .0) (L .plan .ptr .1) ∷ []) _ $
-        alloc1 ! (λ l₀. alloc1 ! (λ l₁. alloc1 ! (λ l₂. alloc1 ! (λ l₃. alloc1 ! (λ l₄. alloc1 ! (λ l₅. alloc1 ! (λ l₆. alloc1 ! (λ l₇. alloc0 ! $ params1 ! $
-        pass1 ! (init ! 12 refl (tt, (tt, (record { fits = room .0 }, tt)))) $ pass1 ! (init ! 10 refl (typed 𝓤 H A W (J .X) (J .single) x _ is)) $ pass1 ! (init ! 8 refl (tt, tt)) $ pass0 ! $
+        qed W
+        ((‵ (flft (L .κ) (L .q)) ⊛ ‵ (flft (L .κ′) (L .q′)) ⊛ ‵ ftrue)
+        ∷ ‵
+        (owns (MutSlice (named 0) (L .κ) u8 ∷ J .X ∷ MutRef (named 1) (L .κ′) PlanR ∷ []) (L .image, (x, (L .plan, tt)))
+        (sliceOf L ∷ [], (J .single .val x ∷ [], (vptr (L .plan .ptr .0) (L .plan .ptr .1) ∷ [], tt))))
+        ∷ [])
+        ∵ enter ! C Λ function (sliceOf L ∷ J .single .val x ∷ vptr (L .plan .ptr .0) (L .plan .ptr .1) ∷ []) _ $
+        alloc1 !
+        (λ l₀. alloc1 ! (λ l₁. alloc1 ! (λ l₂. alloc1 ! (λ l₃. alloc1 ! (λ l₄. alloc1 ! (λ l₅. alloc1 ! (λ l₆. alloc1 ! (λ l₇. alloc0 ! $ params1 ! $
+        pass1 ! (init ! 12 refl (tt, (tt, (record { fits = room .0 }, tt)))) $
+        pass1 ! (init ! 10 refl (typed 𝓤 H A W (J .X) (J .single) x _ is)) $ pass1 ! (init ! 8 refl (tt, tt)) $ pass0 ! $
         -- the locals, each with its end, the last first; the tokens; what is owned
-        move ! (17 ∷ []) $ fsplit ! $ move ! (1 ∷ []) $ fsplit ! $ move ! (1 ∷ []) $ fsplit ! $ move ! (2 ∷ 1 ∷ []) $ fjoin ! $ move ! (3 ∷ 5 ∷ 7 ∷ 9 ∷ 11 ∷ 13 ∷ 15 ∷ 17 ∷ 19 ∷ 2 ∷ 1 ∷ 0 ∷ 4 ∷ 6 ∷ 8 ∷ 10 ∷ 12 ∷ 14 ∷ 16 ∷ 18 ∷ []) $
-        runs-down D 𝓤 H A W L (J .X) (J .single) (plains 1 Rs) (kept 1 Rs) (Ψ D Rs J) x tt tt C Λ fm (J .callee) known known-read l₀ l₁ l₂ l₃ l₄ l₅ l₆ l₇ 3 ((D .single .ty, l₄) ∷ (tyRef erased mut (tyInt w8), l₅) ∷ (imageTy erased, l₆) ∷ (P′.mir, l₇) ∷ []) (Post D Rs J 𝓤 H A W L x tt) _ refl refl refl refl room
+        move ! (17 ∷ []) $ fsplit ! $ move ! (1 ∷ []) $ fsplit ! $ move ! (1 ∷ []) $ fsplit ! $ move ! (2 ∷ 1 ∷ []) $ fjoin ! $
+        move ! (3 ∷ 5 ∷ 7 ∷ 9 ∷ 11 ∷ 13 ∷ 15 ∷ 17 ∷ 19 ∷ 2 ∷ 1 ∷ 0 ∷ 4 ∷ 6 ∷ 8 ∷ 10 ∷ 12 ∷ 14 ∷ 16 ∷ 18 ∷ []) $
+        runs-down D 𝓤 H A W L (J .X) (J .single) (plains 1 Rs) (kept 1 Rs) (Ψ D Rs J) x tt tt C Λ fm (J .callee) known known-read l₀ l₁ l₂
+        l₃ l₄ l₅ l₆ l₇ 3 ((D .single .ty, l₄) ∷ (tyRef erased mut (tyInt w8), l₅) ∷ (imageTy erased, l₆) ∷ (P′.mir, l₇) ∷ [])
+        (Post D Rs J 𝓤 H A W L x tt) _ refl refl refl refl room
         (no-more !)
-        (λ r v zs p e l e′. freed D 𝓤 H A W L (J .X) (J .single) (plains 1 Rs) (kept 1 Rs) (Ψ D Rs J) x tt tt C Λ fm (J .callee) known known-read l₀ l₁ l₂ l₃ l₄ l₅ l₆ l₇ 3 [] (Post D Rs J 𝓤 H A W L x tt) [] r v zs p (over D Rs J 𝓤 H A W L x tt r v zs p e l e′))))))))))
+        (λ r v zs p e l e′.
+        freed D 𝓤 H A W L (J .X) (J .single) (plains 1 Rs) (kept 1 Rs) (Ψ D Rs J) x tt tt C Λ fm (J .callee) known known-read l₀ l₁ l₂
+        l₃ l₄ l₅ l₆ l₇ 3 [] (Post D Rs J 𝓤 H A W L x tt) [] r v zs p (over D Rs J 𝓤 H A W L x tt r v zs p e l e′))))))))))
 
-  pub meets : {M : Type 1} (𝓤 : URA M) (H : Heap 𝓤) (A : Atoms 𝓤) (W : Given 𝓤 H A) (𝓣 : Tables 𝓤 H) → Triple 𝓤 (𝓣 .C (J .callee)) (Called D Rs J 𝓤 H A) → Triple 𝓤 (𝓣 .C (D .reader)) (Read D 𝓤 H A)
+  pub meets : {M : Type 1} (𝓤 : URA M) (H : Heap 𝓤) (A : Atoms 𝓤) (W : Given 𝓤 H A) (𝓣 : Tables 𝓤 H)
+      → Triple 𝓤 (𝓣 .C (J .callee)) (Called D Rs J 𝓤 H A) → Triple 𝓤 (𝓣 .C (D .reader)) (Read D 𝓤 H A)
       → Meets 𝓤 H A (lends D Rs J .signature) (WpFn 𝓤 H (𝓣 .C) (𝓣 .Λ) function) (closing 𝓤 H A (lends D Rs J) (ensures D Rs J 𝓤))
-  meets 𝓤 H A W 𝓣 known known-read = meets-by D Rs J 𝓤 H A W function 𝓣 (λ L x t room is are. walk 𝓤 H A W (𝓣 .C) (𝓣 .Λ) (fmOf 𝓤 H (W .laws) 𝓣) known known-read L x room is)
+  meets 𝓤 H A W 𝓣 known known-read =
+      meets-by D Rs J 𝓤 H A W function 𝓣
+      (λ L x t room is are. walk 𝓤 H A W (𝓣 .C) (𝓣 .Λ) (fmOf 𝓤 H (W .laws) 𝓣) known known-read L x room is)

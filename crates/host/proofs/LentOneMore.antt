@@ -35,23 +35,55 @@ module _ (D : Answering) (Y : RattleType) (J : Lending D (Y ∷ [])) where
     lifetimes = 2;
     outlives = [];
     params = 4;
-    locals = local (D .single .ty) valueLocal ∷ local (imageTy (named 0)) valueLocal ∷ local (J .single .ty) valueLocal ∷ local planRef valueLocal ∷ local (J .singles .0 .ty) valueLocal ∷ work D;
+    locals =
+        local (D .single .ty) valueLocal ∷ local (imageTy (named 0)) valueLocal ∷ local (J .single .ty) valueLocal
+        ∷ local planRef valueLocal ∷ local (J .singles .0 .ty) valueLocal ∷ work D;
     body = body D (J .callee) 4 (copy (place 4 []) ∷ []);
   }
 
-  module _ {M : Type 1} (𝓤 : URA M) (H : Heap 𝓤) (A : Atoms 𝓤) (W : Given 𝓤 H A) (C : Calls 𝓤 H) (Λ : Loops 𝓤 H) (fm : FmC 𝓤 H (W .laws) C) (known : Triple 𝓤 (C (J .callee)) (Called D Rs J 𝓤 H A)) (known-read : Triple 𝓤 (C (D .reader)) (Read D 𝓤 H A)) where
-    walk : (L : Loans) (x : J .X .Denot) (y : Y .Denot) → Room u8 (length (L .image .now)) → Is (J .X) x (J .single .val x ∷ []) → Are (Y ∷ []) (Ises (Y ∷ [])) (y, tt) (J .singles .0 .val y ∷ [], tt)
-        → ent 𝓤 (onEntry 𝓤 H A (lends D Rs J .signature) (L .κ, (L .κ′, tt)) (L .q, (L .q′, tt)) (L .image, (x, (L .plan, (y, tt)))) (sliceOf L ∷ [], (J .single .val x ∷ [], (vptr (L .plan .ptr .0) (L .plan .ptr .1) ∷ [], (J .singles .0 .val y ∷ [], tt))))) (WpFn 𝓤 H C Λ function (sliceOf L ∷ J .single .val x ∷ vptr (L .plan .ptr .0) (L .plan .ptr .1) ∷ J .singles .0 .val y ∷ []) (Post D Rs J 𝓤 H A W L x (y, tt)))
+  module _ {M : Type 1} (𝓤 : URA M) (H : Heap 𝓤) (A : Atoms 𝓤) (W : Given 𝓤 H A) (C : Calls 𝓤 H) (Λ : Loops 𝓤 H) (fm : FmC 𝓤 H (W .laws) C)
+      (known : Triple 𝓤 (C (J .callee)) (Called D Rs J 𝓤 H A)) (known-read : Triple 𝓤 (C (D .reader)) (Read D 𝓤 H A)) where
+    walk : (L : Loans) (x : J .X .Denot) (y : Y .Denot) → Room u8 (length (L .image .now)) → Is (J .X) x (J .single .val x ∷ [])
+        → Are (Y ∷ []) (Ises (Y ∷ [])) (y, tt) (J .singles .0 .val y ∷ [], tt)
+        → ent 𝓤
+        (onEntry 𝓤 H A (lends D Rs J .signature) (L .κ, (L .κ′, tt)) (L .q, (L .q′, tt)) (L .image, (x, (L .plan, (y, tt)))) (
+          sliceOf L ∷ [],
+          (J .single .val x ∷ [], (vptr (L .plan .ptr .0) (L .plan .ptr .1) ∷ [], (J .singles .0 .val y ∷ [], tt))),
+        ))
+        (WpFn 𝓤 H C Λ function (sliceOf L ∷ J .single .val x ∷ vptr (L .plan .ptr .0) (L .plan .ptr .1) ∷ J .singles .0 .val y ∷ [])
+        (Post D Rs J 𝓤 H A W L x (y, tt)))
     walk L x y room is are =
-        qed W ((‵ (flft (L .κ) (L .q)) ⊛ ‵ (flft (L .κ′) (L .q′)) ⊛ ‵ ftrue) ∷ ‵ (owns (MutSlice (named 0) (L .κ) u8 ∷ J .X ∷ MutRef (named 1) (L .κ′) PlanR ∷ Y ∷ []) (L .image, (x, (L .plan, (y, tt)))) (sliceOf L ∷ [], (J .single .val x ∷ [], (vptr (L .plan .ptr .0) (L .plan .ptr .1) ∷ [], (J .singles .0 .val y ∷ [], tt))))) ∷ []) ∵ enter ! C Λ function (sliceOf L ∷ J .single .val x ∷ vptr (L .plan .ptr .0) (L .plan .ptr .1) ∷ J .singles .0 .val y ∷ []) _ $
-        alloc1 ! (λ l₀. alloc1 ! (λ l₁. alloc1 ! (λ l₂. alloc1 ! (λ l₃. alloc1 ! (λ l₄. alloc1 ! (λ l₅. alloc1 ! (λ l₆. alloc1 ! (λ l₇. alloc1 ! (λ l₈. alloc0 ! $ params1 ! $
-        pass1 ! (init ! 14 refl (tt, (tt, (record { fits = room .0 }, tt)))) $ pass1 ! (init ! 12 refl (typed 𝓤 H A W (J .X) (J .single) x _ is)) $ pass1 ! (init ! 10 refl (tt, tt)) $ pass1 ! (init ! 8 refl (typed 𝓤 H A W Y (J .singles .0) y _ (are .0))) $ pass0 ! $
+        qed W
+        ((‵ (flft (L .κ) (L .q)) ⊛ ‵ (flft (L .κ′) (L .q′)) ⊛ ‵ ftrue)
+        ∷ ‵
+        (owns (MutSlice (named 0) (L .κ) u8 ∷ J .X ∷ MutRef (named 1) (L .κ′) PlanR ∷ Y ∷ []) (L .image, (x, (L .plan, (y, tt)))) (
+          sliceOf L ∷ [],
+          (J .single .val x ∷ [], (vptr (L .plan .ptr .0) (L .plan .ptr .1) ∷ [], (J .singles .0 .val y ∷ [], tt))),
+        ))
+        ∷ [])
+        ∵ enter ! C Λ function (sliceOf L ∷ J .single .val x ∷ vptr (L .plan .ptr .0) (L .plan .ptr .1) ∷ J .singles .0 .val y ∷ []) _ $
+        alloc1 !
+        (λ l₀. alloc1 ! (λ l₁. alloc1 ! (λ l₂. alloc1 ! (λ l₃. alloc1 ! (λ l₄. alloc1 ! (λ l₅. alloc1 ! (λ l₆. alloc1 ! (λ l₇. alloc1 ! (λ l₈. alloc0 ! $ params1 ! $
+        pass1 ! (init ! 14 refl (tt, (tt, (record { fits = room .0 }, tt)))) $
+        pass1 ! (init ! 12 refl (typed 𝓤 H A W (J .X) (J .single) x _ is)) $ pass1 ! (init ! 10 refl (tt, tt)) $
+        pass1 ! (init ! 8 refl (typed 𝓤 H A W Y (J .singles .0) y _ (are .0))) $ pass0 ! $
         -- the locals, each with its end, the last first; the tokens; what is owned
-        move ! (19 ∷ []) $ fsplit ! $ move ! (1 ∷ []) $ fsplit ! $ move ! (1 ∷ []) $ fsplit ! $ move ! (2 ∷ 1 ∷ []) $ fjoin ! $ move ! (3 ∷ 5 ∷ 7 ∷ 9 ∷ 13 ∷ 15 ∷ 17 ∷ 19 ∷ 21 ∷ 2 ∷ 1 ∷ 0 ∷ 4 ∷ 6 ∷ 8 ∷ 10 ∷ 14 ∷ 16 ∷ 18 ∷ 20 ∷ []) $
-        runs-down D 𝓤 H A W L (J .X) (J .single) (plains 1 Rs) (kept 1 Rs) (Ψ D Rs J) x (y, tt) (J .singles .0 .val y ∷ [], tt) C Λ fm (J .callee) known known-read l₀ l₁ l₂ l₃ l₅ l₆ l₇ l₈ 4 ((J .singles .0 .ty, l₄) ∷ (D .single .ty, l₅) ∷ (tyRef erased mut (tyInt w8), l₆) ∷ (imageTy erased, l₇) ∷ (P′.mir, l₈) ∷ []) (Post D Rs J 𝓤 H A W L x (y, tt)) _ refl refl refl refl room
+        move ! (19 ∷ []) $ fsplit ! $ move ! (1 ∷ []) $ fsplit ! $ move ! (1 ∷ []) $ fsplit ! $ move ! (2 ∷ 1 ∷ []) $ fjoin ! $
+        move ! (3 ∷ 5 ∷ 7 ∷ 9 ∷ 13 ∷ 15 ∷ 17 ∷ 19 ∷ 21 ∷ 2 ∷ 1 ∷ 0 ∷ 4 ∷ 6 ∷ 8 ∷ 10 ∷ 14 ∷ 16 ∷ 18 ∷ 20 ∷ []) $
+        runs-down D 𝓤 H A W L (J .X) (J .single) (plains 1 Rs) (kept 1 Rs) (Ψ D Rs J) x (y, tt) (J .singles .0 .val y ∷ [], tt) C Λ fm
+        (J .callee) known known-read l₀ l₁ l₂ l₃ l₅ l₆ l₇ l₈ 4
+        ((J .singles .0 .ty, l₄) ∷ (D .single .ty, l₅) ∷ (tyRef erased mut (tyInt w8), l₆) ∷ (imageTy erased, l₇) ∷ (P′.mir, l₈) ∷ [])
+        (Post D Rs J 𝓤 H A W L x (y, tt)) _ refl refl refl refl room
         (and-then ! (load ! (from ! (stop !)) (look ! 21 refl)) (no-more !))
-        (λ r v zs p e l e′. forget ! 9 refl $ move ! (9 ∷ 10 ∷ []) $ free1 ! $ freed D 𝓤 H A W L (J .X) (J .single) (plains 1 Rs) (kept 1 Rs) (Ψ D Rs J) x (y, tt) (J .singles .0 .val y ∷ [], tt) C Λ fm (J .callee) known known-read l₀ l₁ l₂ l₃ l₅ l₆ l₇ l₈ 4 [] (Post D Rs J 𝓤 H A W L x (y, tt)) [] r v zs p (over D Rs J 𝓤 H A W L x (y, tt) r v zs p e l e′)))))))))))
+        (λ r v zs p e l e′.
+        forget ! 9 refl $ move ! (9 ∷ 10 ∷ []) $ free1 ! $
+        freed D 𝓤 H A W L (J .X) (J .single) (plains 1 Rs) (kept 1 Rs) (Ψ D Rs J) x (y, tt) (J .singles .0 .val y ∷ [], tt) C Λ fm
+        (J .callee) known known-read l₀ l₁ l₂ l₃ l₅ l₆ l₇ l₈ 4 [] (Post D Rs J 𝓤 H A W L x (y, tt)) [] r v zs p
+        (over D Rs J 𝓤 H A W L x (y, tt) r v zs p e l e′)))))))))))
 
-  pub meets : {M : Type 1} (𝓤 : URA M) (H : Heap 𝓤) (A : Atoms 𝓤) (W : Given 𝓤 H A) (𝓣 : Tables 𝓤 H) → Triple 𝓤 (𝓣 .C (J .callee)) (Called D Rs J 𝓤 H A) → Triple 𝓤 (𝓣 .C (D .reader)) (Read D 𝓤 H A)
+  pub meets : {M : Type 1} (𝓤 : URA M) (H : Heap 𝓤) (A : Atoms 𝓤) (W : Given 𝓤 H A) (𝓣 : Tables 𝓤 H)
+      → Triple 𝓤 (𝓣 .C (J .callee)) (Called D Rs J 𝓤 H A) → Triple 𝓤 (𝓣 .C (D .reader)) (Read D 𝓤 H A)
       → Meets 𝓤 H A (lends D Rs J .signature) (WpFn 𝓤 H (𝓣 .C) (𝓣 .Λ) function) (closing 𝓤 H A (lends D Rs J) (ensures D Rs J 𝓤))
-  meets 𝓤 H A W 𝓣 known known-read = meets-by D Rs J 𝓤 H A W function 𝓣 (λ L x t room is are. walk 𝓤 H A W (𝓣 .C) (𝓣 .Λ) (fmOf 𝓤 H (W .laws) 𝓣) known known-read L x (t .0) room is are)
+  meets 𝓤 H A W 𝓣 known known-read =
+      meets-by D Rs J 𝓤 H A W function 𝓣
+      (λ L x t room is are. walk 𝓤 H A W (𝓣 .C) (𝓣 .Λ) (fmOf 𝓤 H (W .laws) 𝓣) known known-read L x (t .0) room is are)

@@ -37,7 +37,8 @@ pub record Single (R : RattleType) : Type 2 where
 
 -- a declared struct is one machine value
 abbrev pub struct-single : (S : Declared) (L : LL.Laws S) → LL.Copyables (S .parts) → Single (row S)
-struct-single S L cs = record { ty = layout (shape S); one = refl; val = LL.val S L; tells = LL.tells S L; lawful = LL.lawful S L; still = LL.still S cs yes }
+struct-single S L cs =
+    record { ty = layout (shape S); one = refl; val = LL.val S L; tells = LL.tells S L; lawful = LL.lawful S L; still = LL.still S cs yes }
 
 abbrev pub uint-single : (w : Width) → Single (UInt w)
 uint-single w = record { ty = tyInt w; one = refl; val = vint w; tells = uint-tells w; lawful = λ 𝓤 H A W. uint-lawful 𝓤 H A W w; still = refl }
@@ -58,7 +59,8 @@ last R S x = subst (λ (e : Exit (R .Denot)). Last e x) (sym (S .still)) tt
 pub quiet : (R : RattleType) (S : Single R) (x : R .Denot) (f : Last (R .exit yes) x) → left (R .exit yes) x f ≡ ftrue
 quiet R S x = subst (λ (e : Exit (R .Denot)). (f : Last e x) → left e x f ≡ ftrue) (sym (S .still)) (λ f. refl)
 
-pub typed : {M : Type 1} (𝓤 : URA M) (H : Heap 𝓤) (A : Atoms 𝓤) (W : Given 𝓤 H A) (R : RattleType) (S : Single R) (x : R .Denot) (v : Val) → Is R x (v ∷ []) → T (hasTy (S .ty) v) × WT v
+pub typed : {M : Type 1} (𝓤 : URA M) (H : Heap 𝓤) (A : Atoms 𝓤) (W : Given 𝓤 H A) (R : RattleType) (S : Single R) (x : R .Denot) (v : Val)
+    → Is R x (v ∷ []) → T (hasTy (S .ty) v) × WT v
 typed 𝓤 H A W R S x v is = subst (λ (τs : List Ty). Typed τs (v ∷ [])) (S .one) (S .lawful 𝓤 H A W .typed x (v ∷ []) is) .0
 
 abbrev pub Singles : List RattleType → Type 2
@@ -83,7 +85,8 @@ abbrev pub spells : (n : ℕ) (Rs : List RattleType) → Singles Rs → (κs : L
 spells n [] Ss κs = tt
 spells n (R ∷ Rs) Ss κs = ((λ x. Ss .0 .val x ∷ []), spells n Rs (Ss .1) κs)
 
-abbrev pub tellss : (n : ℕ) (Rs : List RattleType) (Ss : Singles Rs) (κs : Lfts n) → Tellss (typesAt (plains n Rs) κs) (Ises (typesAt (plains n Rs) κs)) (spells n Rs Ss κs)
+abbrev pub tellss : (n : ℕ) (Rs : List RattleType) (Ss : Singles Rs) (κs : Lfts n)
+    → Tellss (typesAt (plains n Rs) κs) (Ises (typesAt (plains n Rs) κs)) (spells n Rs Ss κs)
 tellss n [] Ss κs = tt
 tellss n (R ∷ Rs) Ss κs = (Ss .0 .tells, tellss n Rs (Ss .1) κs)
 
@@ -91,11 +94,13 @@ abbrev pub dropped : (n : ℕ) (Rs : List RattleType) → Stays (plains n Rs) (k
 dropped n [] = tt
 dropped n (R ∷ Rs) = (stay-dropped (plain (λ _. R)) yes, dropped n Rs)
 
-abbrev pub ends : (n : ℕ) (Rs : List RattleType) → Singles Rs → (κs : Lfts n) (t : Denots (typesAt (plains n Rs) κs)) → Fins κs (plains n Rs) (kept n Rs) t
+abbrev pub ends : (n : ℕ) (Rs : List RattleType) → Singles Rs → (κs : Lfts n) (t : Denots (typesAt (plains n Rs) κs))
+    → Fins κs (plains n Rs) (kept n Rs) t
 ends n [] Ss κs t = tt
 ends n (R ∷ Rs) Ss κs t = (last R (Ss .0) (t .0), ends n Rs (Ss .1) κs (t .1))
 
-pub fits : (n : ℕ) (Rs : List RattleType) (Ss : Singles Rs) (κs : Lfts n) (t : Denots (typesAt (plains n Rs) κs)) → fitsOf κs (plains n Rs) (kept n Rs) (dropped n Rs) t (ends n Rs Ss κs t)
+pub fits : (n : ℕ) (Rs : List RattleType) (Ss : Singles Rs) (κs : Lfts n) (t : Denots (typesAt (plains n Rs) κs))
+    → fitsOf κs (plains n Rs) (kept n Rs) (dropped n Rs) t (ends n Rs Ss κs t)
 fits n [] Ss κs t = tt
 fits n (R ∷ Rs) Ss κs t = (tt, fits n Rs (Ss .1) κs (t .1))
 
@@ -104,6 +109,11 @@ module _ {M : Type 1} (𝓤 : URA M) (H : Heap 𝓤) (A : Atoms 𝓤) (W : Given
   all-dropped [] Ss = tt
   all-dropped (R ∷ Rs) Ss = (goes-dropped 𝓤 H A W n (plain (λ _. R)) yes (λ κs x f. quiet R (Ss .0) x f), all-dropped Rs (Ss .1))
 
-  pub none-had : (Rs : List RattleType) (Ss : Singles Rs) (κs : Lfts n) (t : Denots (typesAt (plains n Rs) κs)) (us : Valss (typesAt (plains n Rs) κs)) → ent 𝓤 (emp 𝓤) (sem 𝓤 H A (hasOf κs (plains n Rs) (kept n Rs) (dropped n Rs) t (ends n Rs Ss κs t) us))
+  pub none-had : (Rs : List RattleType) (Ss : Singles Rs) (κs : Lfts n) (t : Denots (typesAt (plains n Rs) κs)) (us : Valss (typesAt (plains n Rs) κs))
+      → ent 𝓤 (emp 𝓤) (sem 𝓤 H A (hasOf κs (plains n Rs) (kept n Rs) (dropped n Rs) t (ends n Rs Ss κs t) us))
   none-had [] Ss κs t us = qed W [] ∵ nothing ! $ done !
-  none-had (R ∷ Rs) Ss κs t us = qed W [] ∵ use0 W (‵ (hasOf κs (plains n Rs) (kept n Rs) (dropped n Rs) (t .1) (ends n Rs (Ss .1) κs (t .1)) (us .1))) (none-had Rs (Ss .1) κs (t .1) (us .1)) $ nothing ! $ fjoin ! $ done !
+  none-had (R ∷ Rs) Ss κs t us =
+      qed W []
+      ∵ use0 W (‵ (hasOf κs (plains n Rs) (kept n Rs) (dropped n Rs) (t .1) (ends n Rs (Ss .1) κs (t .1)) (us .1)))
+      (none-had Rs (Ss .1) κs (t .1) (us .1)) $
+      nothing ! $ fjoin ! $ done !

@@ -35,23 +35,69 @@ module _ (D : Answering) (Y Z : RattleType) (J : Lending D (Y ∷ Z ∷ [])) whe
     lifetimes = 2;
     outlives = [];
     params = 5;
-    locals = local (D .single .ty) valueLocal ∷ local (imageTy (named 0)) valueLocal ∷ local (J .single .ty) valueLocal ∷ local planRef valueLocal ∷ local (J .singles .0 .ty) valueLocal ∷ local (J .singles .1 .0 .ty) valueLocal ∷ work D;
+    locals =
+        local (D .single .ty) valueLocal ∷ local (imageTy (named 0)) valueLocal ∷ local (J .single .ty) valueLocal
+        ∷ local planRef valueLocal ∷ local (J .singles .0 .ty) valueLocal ∷ local (J .singles .1 .0 .ty) valueLocal ∷ work D;
     body = body D (J .callee) 5 (copy (place 4 []) ∷ copy (place 5 []) ∷ []);
   }
 
-  module _ {M : Type 1} (𝓤 : URA M) (H : Heap 𝓤) (A : Atoms 𝓤) (W : Given 𝓤 H A) (C : Calls 𝓤 H) (Λ : Loops 𝓤 H) (fm : FmC 𝓤 H (W .laws) C) (known : Triple 𝓤 (C (J .callee)) (Called D Rs J 𝓤 H A)) (known-read : Triple 𝓤 (C (D .reader)) (Read D 𝓤 H A)) where
-    walk : (L : Loans) (x : J .X .Denot) (y : Y .Denot) (z : Z .Denot) → Room u8 (length (L .image .now)) → Is (J .X) x (J .single .val x ∷ []) → Are (Y ∷ Z ∷ []) (Ises (Y ∷ Z ∷ [])) (y, (z, tt)) (J .singles .0 .val y ∷ [], (J .singles .1 .0 .val z ∷ [], tt))
-        → ent 𝓤 (onEntry 𝓤 H A (lends D Rs J .signature) (L .κ, (L .κ′, tt)) (L .q, (L .q′, tt)) (L .image, (x, (L .plan, (y, (z, tt))))) (sliceOf L ∷ [], (J .single .val x ∷ [], (vptr (L .plan .ptr .0) (L .plan .ptr .1) ∷ [], (J .singles .0 .val y ∷ [], (J .singles .1 .0 .val z ∷ [], tt)))))) (WpFn 𝓤 H C Λ function (sliceOf L ∷ J .single .val x ∷ vptr (L .plan .ptr .0) (L .plan .ptr .1) ∷ J .singles .0 .val y ∷ J .singles .1 .0 .val z ∷ []) (Post D Rs J 𝓤 H A W L x (y, (z, tt))))
+  module _ {M : Type 1} (𝓤 : URA M) (H : Heap 𝓤) (A : Atoms 𝓤) (W : Given 𝓤 H A) (C : Calls 𝓤 H) (Λ : Loops 𝓤 H) (fm : FmC 𝓤 H (W .laws) C)
+      (known : Triple 𝓤 (C (J .callee)) (Called D Rs J 𝓤 H A)) (known-read : Triple 𝓤 (C (D .reader)) (Read D 𝓤 H A)) where
+    walk : (L : Loans) (x : J .X .Denot) (y : Y .Denot) (z : Z .Denot) → Room u8 (length (L .image .now))
+        → Is (J .X) x (J .single .val x ∷ [])
+        → Are (Y ∷ Z ∷ []) (Ises (Y ∷ Z ∷ [])) (y, (z, tt)) (J .singles .0 .val y ∷ [], (J .singles .1 .0 .val z ∷ [], tt))
+        → ent 𝓤
+        (onEntry 𝓤 H A (lends D Rs J .signature) (L .κ, (L .κ′, tt)) (L .q, (L .q′, tt)) (L .image, (x, (L .plan, (y, (z, tt))))) (
+          sliceOf L ∷ [],
+          (
+            J .single .val x ∷ [],
+            (vptr (L .plan .ptr .0) (L .plan .ptr .1) ∷ [], (J .singles .0 .val y ∷ [], (J .singles .1 .0 .val z ∷ [], tt))),
+          ),
+        ))
+        (WpFn 𝓤 H C Λ function
+        (sliceOf L ∷ J .single .val x ∷ vptr (L .plan .ptr .0) (L .plan .ptr .1) ∷ J .singles .0 .val y ∷ J .singles .1 .0 .val z
+        ∷ [])
+        (Post D Rs J 𝓤 H A W L x (y, (z, tt))))
     walk L x y z room is are =
-        qed W ((‵ (flft (L .κ) (L .q)) ⊛ ‵ (flft (L .κ′) (L .q′)) ⊛ ‵ ftrue) ∷ ‵ (owns (MutSlice (named 0) (L .κ) u8 ∷ J .X ∷ MutRef (named 1) (L .κ′) PlanR ∷ Y ∷ Z ∷ []) (L .image, (x, (L .plan, (y, (z, tt))))) (sliceOf L ∷ [], (J .single .val x ∷ [], (vptr (L .plan .ptr .0) (L .plan .ptr .1) ∷ [], (J .singles .0 .val y ∷ [], (J .singles .1 .0 .val z ∷ [], tt)))))) ∷ []) ∵ enter ! C Λ function (sliceOf L ∷ J .single .val x ∷ vptr (L .plan .ptr .0) (L .plan .ptr .1) ∷ J .singles .0 .val y ∷ J .singles .1 .0 .val z ∷ []) _ $
-        alloc1 ! (λ l₀. alloc1 ! (λ l₁. alloc1 ! (λ l₂. alloc1 ! (λ l₃. alloc1 ! (λ l₄. alloc1 ! (λ l₅. alloc1 ! (λ l₆. alloc1 ! (λ l₇. alloc1 ! (λ l₈. alloc1 ! (λ l₉. alloc0 ! $ params1 ! $
-        pass1 ! (init ! 16 refl (tt, (tt, (record { fits = room .0 }, tt)))) $ pass1 ! (init ! 14 refl (typed 𝓤 H A W (J .X) (J .single) x _ is)) $ pass1 ! (init ! 12 refl (tt, tt)) $ pass1 ! (init ! 10 refl (typed 𝓤 H A W Y (J .singles .0) y _ (are .0))) $ pass1 ! (init ! 8 refl (typed 𝓤 H A W Z (J .singles .1 .0) z _ (are .1 .0))) $ pass0 ! $
+        qed W
+        ((‵ (flft (L .κ) (L .q)) ⊛ ‵ (flft (L .κ′) (L .q′)) ⊛ ‵ ftrue)
+        ∷ ‵
+        (owns (MutSlice (named 0) (L .κ) u8 ∷ J .X ∷ MutRef (named 1) (L .κ′) PlanR ∷ Y ∷ Z ∷ [])
+        (L .image, (x, (L .plan, (y, (z, tt))))) (
+          sliceOf L ∷ [],
+          (
+            J .single .val x ∷ [],
+            (vptr (L .plan .ptr .0) (L .plan .ptr .1) ∷ [], (J .singles .0 .val y ∷ [], (J .singles .1 .0 .val z ∷ [], tt))),
+          ),
+        ))
+        ∷ [])
+        ∵ enter ! C Λ function
+        (sliceOf L ∷ J .single .val x ∷ vptr (L .plan .ptr .0) (L .plan .ptr .1) ∷ J .singles .0 .val y ∷ J .singles .1 .0 .val z ∷ [])
+        _ $
+        alloc1 !
+        (λ l₀. alloc1 ! (λ l₁. alloc1 ! (λ l₂. alloc1 ! (λ l₃. alloc1 ! (λ l₄. alloc1 ! (λ l₅. alloc1 ! (λ l₆. alloc1 ! (λ l₇. alloc1 ! (λ l₈. alloc1 ! (λ l₉. alloc0 ! $ params1 ! $
+        pass1 ! (init ! 16 refl (tt, (tt, (record { fits = room .0 }, tt)))) $
+        pass1 ! (init ! 14 refl (typed 𝓤 H A W (J .X) (J .single) x _ is)) $ pass1 ! (init ! 12 refl (tt, tt)) $
+        pass1 ! (init ! 10 refl (typed 𝓤 H A W Y (J .singles .0) y _ (are .0))) $
+        pass1 ! (init ! 8 refl (typed 𝓤 H A W Z (J .singles .1 .0) z _ (are .1 .0))) $ pass0 ! $
         -- the locals, each with its end, the last first; the tokens; what is owned
-        move ! (21 ∷ []) $ fsplit ! $ move ! (1 ∷ []) $ fsplit ! $ move ! (1 ∷ []) $ fsplit ! $ move ! (2 ∷ 1 ∷ []) $ fjoin ! $ move ! (3 ∷ 5 ∷ 7 ∷ 9 ∷ 15 ∷ 17 ∷ 19 ∷ 21 ∷ 23 ∷ 2 ∷ 1 ∷ 0 ∷ 4 ∷ 6 ∷ 8 ∷ 10 ∷ 16 ∷ 18 ∷ 20 ∷ 22 ∷ []) $
-        runs-down D 𝓤 H A W L (J .X) (J .single) (plains 1 Rs) (kept 1 Rs) (Ψ D Rs J) x (y, (z, tt)) (J .singles .0 .val y ∷ [], (J .singles .1 .0 .val z ∷ [], tt)) C Λ fm (J .callee) known known-read l₀ l₁ l₂ l₃ l₆ l₇ l₈ l₉ 5 ((J .singles .0 .ty, l₄) ∷ (J .singles .1 .0 .ty, l₅) ∷ (D .single .ty, l₆) ∷ (tyRef erased mut (tyInt w8), l₇) ∷ (imageTy erased, l₈) ∷ (P′.mir, l₉) ∷ []) (Post D Rs J 𝓤 H A W L x (y, (z, tt))) _ refl refl refl refl room
+        move ! (21 ∷ []) $ fsplit ! $ move ! (1 ∷ []) $ fsplit ! $ move ! (1 ∷ []) $ fsplit ! $ move ! (2 ∷ 1 ∷ []) $ fjoin ! $
+        move ! (3 ∷ 5 ∷ 7 ∷ 9 ∷ 15 ∷ 17 ∷ 19 ∷ 21 ∷ 23 ∷ 2 ∷ 1 ∷ 0 ∷ 4 ∷ 6 ∷ 8 ∷ 10 ∷ 16 ∷ 18 ∷ 20 ∷ 22 ∷ []) $
+        runs-down D 𝓤 H A W L (J .X) (J .single) (plains 1 Rs) (kept 1 Rs) (Ψ D Rs J) x (y, (z, tt))
+        (J .singles .0 .val y ∷ [], (J .singles .1 .0 .val z ∷ [], tt)) C Λ fm (J .callee) known known-read l₀ l₁ l₂ l₃ l₆ l₇ l₈ l₉ 5
+        ((J .singles .0 .ty, l₄) ∷ (J .singles .1 .0 .ty, l₅) ∷ (D .single .ty, l₆) ∷ (tyRef erased mut (tyInt w8), l₇)
+        ∷ (imageTy erased, l₈) ∷ (P′.mir, l₉) ∷ [])
+        (Post D Rs J 𝓤 H A W L x (y, (z, tt))) _ refl refl refl refl room
         (and-then ! (load ! (from ! (stop !)) (look ! 23 refl)) (and-then ! (load ! (from ! (stop !)) (look ! 21 refl)) (no-more !)))
-        (λ r v zs p e l e′. forget ! 9 refl $ forget ! 11 refl $ move ! (11 ∷ 12 ∷ []) $ free1 ! $ move ! (9 ∷ 10 ∷ []) $ free1 ! $ freed D 𝓤 H A W L (J .X) (J .single) (plains 1 Rs) (kept 1 Rs) (Ψ D Rs J) x (y, (z, tt)) (J .singles .0 .val y ∷ [], (J .singles .1 .0 .val z ∷ [], tt)) C Λ fm (J .callee) known known-read l₀ l₁ l₂ l₃ l₆ l₇ l₈ l₉ 5 [] (Post D Rs J 𝓤 H A W L x (y, (z, tt))) [] r v zs p (over D Rs J 𝓤 H A W L x (y, (z, tt)) r v zs p e l e′))))))))))))
+        (λ r v zs p e l e′.
+        forget ! 9 refl $ forget ! 11 refl $ move ! (11 ∷ 12 ∷ []) $ free1 ! $ move ! (9 ∷ 10 ∷ []) $ free1 ! $
+        freed D 𝓤 H A W L (J .X) (J .single) (plains 1 Rs) (kept 1 Rs) (Ψ D Rs J) x (y, (z, tt))
+        (J .singles .0 .val y ∷ [], (J .singles .1 .0 .val z ∷ [], tt)) C Λ fm (J .callee) known known-read l₀ l₁ l₂ l₃ l₆ l₇ l₈ l₉
+        5 [] (Post D Rs J 𝓤 H A W L x (y, (z, tt))) [] r v zs p (over D Rs J 𝓤 H A W L x (y, (z, tt)) r v zs p e l e′))))))))))))
 
-  pub meets : {M : Type 1} (𝓤 : URA M) (H : Heap 𝓤) (A : Atoms 𝓤) (W : Given 𝓤 H A) (𝓣 : Tables 𝓤 H) → Triple 𝓤 (𝓣 .C (J .callee)) (Called D Rs J 𝓤 H A) → Triple 𝓤 (𝓣 .C (D .reader)) (Read D 𝓤 H A)
+  pub meets : {M : Type 1} (𝓤 : URA M) (H : Heap 𝓤) (A : Atoms 𝓤) (W : Given 𝓤 H A) (𝓣 : Tables 𝓤 H)
+      → Triple 𝓤 (𝓣 .C (J .callee)) (Called D Rs J 𝓤 H A) → Triple 𝓤 (𝓣 .C (D .reader)) (Read D 𝓤 H A)
       → Meets 𝓤 H A (lends D Rs J .signature) (WpFn 𝓤 H (𝓣 .C) (𝓣 .Λ) function) (closing 𝓤 H A (lends D Rs J) (ensures D Rs J 𝓤))
-  meets 𝓤 H A W 𝓣 known known-read = meets-by D Rs J 𝓤 H A W function 𝓣 (λ L x t room is are. walk 𝓤 H A W (𝓣 .C) (𝓣 .Λ) (fmOf 𝓤 H (W .laws) 𝓣) known known-read L x (t .0) (t .1 .0) room is are)
+  meets 𝓤 H A W 𝓣 known known-read =
+      meets-by D Rs J 𝓤 H A W function 𝓣
+      (λ L x t room is are. walk 𝓤 H A W (𝓣 .C) (𝓣 .Λ) (fmOf 𝓤 H (W .laws) 𝓣) known known-read L x (t .0) (t .1 .0) room is are)

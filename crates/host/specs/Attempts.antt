@@ -1,4 +1,5 @@
--- A PIN attempt: "Number a local change .. durably on flash before this returns, so the change it numbers can only follow it", and the try, "before its credential is compared".
+-- A PIN attempt: "Number a local change .. durably on flash before this returns, so the change it numbers can only follow it", and the try,
+-- "before its credential is compared".
 use mathlib.Core.Path.{_≡_}
 use mathlib.Core.List.{List}
 use Prim.Native.Nat.{ℕ}

@@ -1,4 +1,5 @@
--- "In the host build the fault plan is run down in place, call after call": a step is what it is by value, and what it leaves of the plan lies where the plan was lent.
+-- "In the host build the fault plan is run down in place, call after call": a step is what it is by value, and what it leaves of the plan
+-- lies where the plan was lent.
 use mathlib.Core.Path.{_≡_}
 use mathlib.Core.List.{List}
 use mathlib.Core.Bool.{_&&_}

@@ -4,8 +4,10 @@
 mod lent; // a program and an erase on a lent plan
 mod attempts; // a PIN attempt: its number, then its try, on one plan
 
-pub use attempts::{Attempted, attempt};
-pub use lent::{erase, program};
+pub use attempts::Attempted;
+pub use attempts::attempt;
+pub use lent::erase;
+pub use lent::program;
 
 // What stands here uses:
 use decisions::Done;

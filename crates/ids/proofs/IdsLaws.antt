@@ -20,7 +20,8 @@ use Rattle.ids.specs.declared.Meaning.the-variants as meaning
 use Rattle.ids.specs.declared.CounterState.{CounterState}
 use Rattle.ids.specs.declared.Next.{Next}
 use Rattle.ids.specs.declared.Next.the-variants.{State, Refused}
-use Rattle.ids.specs.Ids.{counterTag, valueTag, anchorTag, credentials, placeFrom, placeOf, isPlace, isCredential, isValue, mayFall, isMonotonic, credentialMeaning, valueMeaning, meaningOf}
+use Rattle.ids.specs.Ids.{counterTag, valueTag, anchorTag, credentials, placeFrom, placeOf, isPlace, isCredential, isValue, mayFall}
+use Rattle.ids.specs.Ids.{isMonotonic, credentialMeaning, valueMeaning, meaningOf}
 use Rattle.ids.specs.Counters.{freshOf, remainingOf, totalMax, oneMore, failedOf, resetOf, nextNumber}
 
 -- ---- a search of the table, from place i on

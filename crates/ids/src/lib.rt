@@ -3,7 +3,10 @@
 
 mod meanings; // which ids are known, and what a tag and id mean
 
-pub use meanings::{is_credential, is_monotonic, is_value, meaning_of};
+pub use meanings::is_credential;
+pub use meanings::is_monotonic;
+pub use meanings::is_value;
+pub use meanings::meaning_of;
 
 // What stands here uses:
 use basics::Answer;

@@ -47,8 +47,12 @@ line-short : (x : ℕ) (xs : List ℕ) → x < 256 → T (areBytes xs) → lengt
 unfolding line
 line-short x [] h t = omega (arith, number-short 3 x 10 (omega arith) (omega arith))
 line-short x (y ∷ ys) h t =
-    omega
-    (arith, length-append (number x 32) (line y ys), number-short 3 x 32 (omega arith) (omega arith), line-short y ys (bytes-head y ys t) (bytes-tail y ys t))
+    omega (
+      arith,
+      length-append (number x 32) (line y ys),
+      number-short 3 x 32 (omega arith) (omega arith),
+      line-short y ys (bytes-head y ys t) (bytes-tail y ys t),
+    )
 
 -- ---- records
 Short : Raw → Type 0
@@ -75,7 +79,9 @@ decoded-short : (seq : ℕ) (slot : List ℕ) → T (areBytes slot) → Short (d
 unfolding decoded decodedWith Short
 decoded-short seq slot t =
     by-test (λ (o : OptRaw). length (recordLine (o .raw)) ≤ 48) (isRecordWith (crcUnder seq (take 12 slot)) slot) (some (rawOf slot)) none
-    (λ e. bytes-short (getD slot 0 0) (getD slot 1 0) (part 2 10 slot) (bytes-get slot 0 t) (bytes-get slot 1 t) (bytes-take 10 (drop 2 slot) (bytes-drop 2 slot t)) (simp length-take (omega arith)))
+    (λ e.
+    bytes-short (getD slot 0 0) (getD slot 1 0) (part 2 10 slot) (bytes-get slot 0 t) (bytes-get slot 1 t)
+    (bytes-take 10 (drop 2 slot) (bytes-drop 2 slot t)) (simp length-take (omega arith)))
     (λ e. bytes-short 0 0 (noRaw .body) (omega arith) (omega arith) tt (omega arith))
 
 absorbed-short : (r : Raw) (t : List Raw) → Short r → AllShort t → AllShort (absorbed r t)
@@ -100,7 +106,8 @@ unfolding absorbed holds
 absorbed-held r [] h = absurd (false≢true h)
 absorbed-held r (e ∷ es) h = go (sameKey e r) h (absorbed-held r es)
   where
-    go : (b : Bool) → (b || holds (r .tag) (r .id) es) ≡ true → (holds (r .tag) (r .id) es ≡ true → length (absorbed r es) ≤ length es) → length (pick b (pick (falls r e) (e ∷ es) (r ∷ es)) (e ∷ absorbed r es)) ≤ suc (length es)
+    go : (b : Bool) → (b || holds (r .tag) (r .id) es) ≡ true → (holds (r .tag) (r .id) es ≡ true → length (absorbed r es) ≤ length es)
+        → length (pick b (pick (falls r e) (e ∷ es) (r ∷ es)) (e ∷ absorbed r es)) ≤ suc (length es)
     go true h ih = by-test (λ (l : List Raw). length l ≤ suc (length es)) (falls r e) (e ∷ es) (r ∷ es) (λ f. omega arith) (λ f. omega arith)
     go false h ih = omega (arith, ih h)
 
@@ -122,7 +129,9 @@ slot-good seq slot tooMany t g = tt
 slot-good seq slot (these held) t g =
     let r = decoded seq slot .raw in
     by-test Good (decoded seq slot .some) (pick (hasRoom limit r held) (these (absorbed r held)) tooMany) (these held)
-    (λ e. by-test Good (hasRoom limit r held) (these (absorbed r held)) tooMany (λ f. (absorbed-fits r held f (g .0), absorbed-short r held (decoded-short seq slot t) (g .1))) (λ f. tt))
+    (λ e.
+    by-test Good (hasRoom limit r held) (these (absorbed r held)) tooMany
+    (λ f. (absorbed-fits r held f (g .0), absorbed-short r held (decoded-short seq slot t) (g .1))) (λ f. tt))
     (λ e. g)
 
 read-good : (n k seq : ℕ) (slots : ℕ → List ℕ) (read : Read) → ((k : ℕ) → T (areBytes (slots k))) → Good read → Good (readFrom n k seq slots read)
@@ -186,7 +195,8 @@ read-fits s seq head (these t) hs hq hh g = record {
   );
 }
 
-chosen-fits : (image : List ℕ) → T (areBytes image) → (n : ℕ) → n ≤ 16 → (b : Chosen) → Right (headerAt 2 image) n b → Fits (logFrom (regionChosen image b))
+chosen-fits : (image : List ℕ) → T (areBytes image) → (n : ℕ) → n ≤ 16 → (b : Chosen) → Right (headerAt 2 image) n b
+    → Fits (logFrom (regionChosen image b))
 unfolding Good AllShort
 chosen-fits image t n most Nothing g = record { few = omega arith; short = omega arith }
 chosen-fits image t n most (Sector s seq) g =
@@ -200,14 +210,18 @@ chosen-fits image t n most (Sector s seq) g =
 pub opened-fits : (image : List ℕ) → T (areBytes image) → Fits (openOf image .log)
 unfolding openOf scanOf
 opened-fits image t =
-    by-test (λ (o : Opened). Fits (o .log)) (eqb (sectorsIn (length image)) 0) (record { answer = BadImage; log = logOf Failed 1 [] }) (record { answer = Done; log = logFrom (regionChosen image (chosenOf 2 (sectorsIn (length image)) image)) })
+    by-test (λ (o : Opened). Fits (o .log)) (eqb (sectorsIn (length image)) 0) (record { answer = BadImage; log = logOf Failed 1 [] })
+    (record { answer = Done; log = logFrom (regionChosen image (chosenOf 2 (sectorsIn (length image)) image)) })
     (λ e. record { few = omega arith; short = omega arith })
-    (λ e. chosen-fits image t (sectorsIn (length image)) (sectors-fit (length image) .0) (chosenOf 2 (sectorsIn (length image)) image) (chosen-right (headerAt 2 image) (sectorsIn (length image))))
+    (λ e.
+    chosen-fits image t (sectorsIn (length image)) (sectors-fit (length image) .0) (chosenOf 2 (sectorsIn (length image)) image)
+    (chosen-right (headerAt 2 image) (sectorsIn (length image))))
 
 -- no listing of an image of bytes is longer
 pub listing-fits : (image : List ℕ) → T (areBytes image) → length (listingOf image) ≤ longest
 unfolding listingOf
 listing-fits image t =
-    by-test (λ (l : List ℕ). length l ≤ longest) (isDone (openOf image .answer)) (stateListing (openOf image .log) (openOf image .log .state)) badImage
+    by-test (λ (l : List ℕ). length l ≤ longest) (isDone (openOf image .answer))
+    (stateListing (openOf image .log) (openOf image .log .state)) badImage
     (λ e. opened-fits image t .short)
     (λ e. omega arith)

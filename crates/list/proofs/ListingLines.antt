@@ -26,7 +26,8 @@ module _ (xs : List ℕ) where
   line-end i h = rw (drop-of-length-le xs {i = i + 1} h)
 
 -- the lines from place i on
-pub lines-step : (rs : List Raw) (i : ℕ) (d : Raw) → i < length rs → recordLines (drop i rs) ≡ recordLine (getD rs i d) ++ recordLines (drop (i + 1) rs)
+pub lines-step : (rs : List Raw) (i : ℕ) (d : Raw) → i < length rs
+    → recordLines (drop i rs) ≡ recordLine (getD rs i d) ++ recordLines (drop (i + 1) rs)
 unfolding recordLines
 lines-step rs i d h = rw (add-one i, drop-cons rs i d h)
 

@@ -1,4 +1,5 @@
-// Lists the image on standard input on standard output. It reads at most one byte more than the largest image, so that a longer one is seen to be too long.
+// Lists the image on standard input on standard output. It reads at most one byte more than the largest image, so that a longer one is seen
+// to be too long.
 use libc::STDIN_FILENO;
 use libc::STDOUT_FILENO;
 use list::LONGEST;

@@ -62,7 +62,9 @@ module _ (n : ℕ) (log : Log) (f : Flash) where
         ap (logFits n) format-log
         ∙ ap (λ (s : State). logFits n (logOf s (made .next) [])) (c .active)
         ∙ log-fits n (Active (c .sector) (c .seq) 1) (made .next) [] (λ e. omega (arith, c .raised)) (omega arith)
-        (placed-state n (c .sector) (c .seq) 1 (made .next) 0 (record { within = c .within; low = omega arith; high = omega arith; later = inl (omega (arith, c .raised)) })) refl
+        (placed-state n (c .sector) (c .seq) 1 (made .next) 0
+        (record { within = c .within; low = omega arith; high = omega arith; later = inl (omega (arith, c .raised)) }))
+        refl
 
     pub format-empty : recordsOf (formatted [] n log f .log) ≡ []
     format-empty = ap recordsOf format-log
@@ -73,24 +75,43 @@ module _ (a : Anchor) (n : ℕ) (o : Outcome) where
   unfolding anchoredFirst
   first-stopped e = ap (λ (b : Bool). pick b (anchorCall a n (o .log) (o .flash)) o) e
 
-  pub first-decided : isDone (o .answer) ≡ true → recordsOf (o .log) ≡ [] → anchoredFirst a n o ≡ performed (whenActive (o .log .state) (anchorDecision none true a)) n (o .log) (o .flash)
+  pub first-decided : isDone (o .answer) ≡ true → recordsOf (o .log) ≡ []
+      → anchoredFirst a n o ≡ performed (whenActive (o .log .state) (anchorDecision none true a)) n (o .log) (o .flash)
   unfolding anchoredFirst heldOf roomFor holds
   first-decided e t =
       ap (λ (b : Bool). pick b (anchorCall a n (o .log) (o .flash)) o) e
-      ∙ ap (λ (t : List Raw). performed (whenActive (o .log .state) (anchorDecision (heldOf anchorTag 0 t) (roomFor anchorTag 0 t) a)) n (o .log) (o .flash)) t
+      ∙ ap
+      (λ (t : List Raw).
+      performed (whenActive (o .log .state) (anchorDecision (heldOf anchorTag 0 t) (roomFor anchorTag 0 t) a)) n (o .log)
+      (o .flash))
+      t
 
 -- ---- which anchors are first
-pub not-first : (s : State) (a : Anchor) (n : ℕ) (log : Log) (f : Flash) → log .state ≡ s → (isFirst a ≡ true → s ≡ Unformatted → ⊥) → anchored s a n log f ≡ anchorCall a n log f
+pub not-first : (s : State) (a : Anchor) (n : ℕ) (log : Log) (f : Flash) → log .state ≡ s → (isFirst a ≡ true → s ≡ Unformatted → ⊥)
+    → anchored s a n log f ≡ anchorCall a n log f
 unfolding performed
 not-first Unformatted a n log f e h = go (isFirst a) refl
   where
     go : (b : Bool) → isFirst a ≡ b → pick b (anchoredFirst a n (formatted [] n log f)) (refused NotFormatted log f) ≡ anchorCall a n log f
     go true t = absurd (h t refl)
-    go false t = sym (ap (λ (s : State). performed (whenActive s (anchorDecision (heldOf anchorTag 0 (recordsOf log)) (roomFor anchorTag 0 (recordsOf log)) a)) n log f) e)
-not-first Failed a n log f e h = sym (ap (λ (s : State). performed (whenActive s (anchorDecision (heldOf anchorTag 0 (recordsOf log)) (roomFor anchorTag 0 (recordsOf log)) a)) n log f) e)
+    go false t =
+        sym
+        (ap
+        (λ (s : State).
+        performed (whenActive s (anchorDecision (heldOf anchorTag 0 (recordsOf log)) (roomFor anchorTag 0 (recordsOf log)) a))
+        n log f)
+        e)
+not-first Failed a n log f e h =
+    sym
+    (ap
+    (λ (s : State).
+    performed (whenActive s (anchorDecision (heldOf anchorTag 0 (recordsOf log)) (roomFor anchorTag 0 (recordsOf log)) a)) n
+    log f)
+    e)
 not-first (Active sector seq head) a n log f e h = refl
 
-pub first : (a : Anchor) (n : ℕ) (log : Log) (f : Flash) → isFirst a ≡ true → anchored Unformatted a n log f ≡ anchoredFirst a n (formatted [] n log f)
+pub first : (a : Anchor) (n : ℕ) (log : Log) (f : Flash) → isFirst a ≡ true
+    → anchored Unformatted a n log f ≡ anchoredFirst a n (formatted [] n log f)
 first a n log f e = ap (λ (b : Bool). pick b (anchoredFirst a n (formatted [] n log f)) (refused NotFormatted log f)) e
 
 -- ---- the call, by whether it brings the first anchor
@@ -99,14 +120,16 @@ opened answer Unformatted a e = (refl, both.first (isDone answer) (isFirst a) e,
 opened answer Failed a e = absurd (false≢true e)
 opened answer (Active sector seq head) a e = absurd (false≢true e)
 
-module _ (image : List ℕ) (log : Log) (plan : Plan) (a : Anchor) (e : Entry) (is-entry : e ≡ entryOf (sectorsIn (length image)) log true anchorTag 0) where
+module _ (image : List ℕ) (log : Log) (plan : Plan) (a : Anchor) (e : Entry)
+    (is-entry : e ≡ entryOf (sectorsIn (length image)) log true anchorTag 0) where
   abbrev call : ℕ → Log → Flash → Outcome
   call n l f = anchored (l .state) a n l f
 
   abbrev n : ℕ
   n = sectorsIn (length image)
 
-  pub as-first : opensLog (e .answer) (log .state) a ≡ true → putAnchorOf image log plan a ≡ anchoredFirst a n (formatted [] n log (flashOf image plan))
+  pub as-first : opensLog (e .answer) (log .state) a ≡ true
+      → putAnchorOf image log plan a ≡ anchoredFirst a n (formatted [] n log (flashOf image plan))
   unfolding putAnchorOf
   as-first o =
       let h = opened (e .answer) (log .state) a o in
@@ -125,4 +148,6 @@ module _ (image : List ℕ) (log : Log) (plan : Plan) (a : Anchor) (e : Entry) (
           entered-in image log plan true anchorTag 0 e is-entry call h
           ∙ not-first (log .state) a n log (flashOf image plan) refl never
           ∙ sym (entered-in image log plan true anchorTag 0 e is-entry (anchorCall a) h)
-      go false h = entered-refused image log plan true anchorTag 0 e is-entry call h ∙ sym (entered-refused image log plan true anchorTag 0 e is-entry (anchorCall a) h)
+      go false h =
+          entered-refused image log plan true anchorTag 0 e is-entry call h
+          ∙ sym (entered-refused image log plan true anchorTag 0 e is-entry (anchorCall a) h)

@@ -45,7 +45,9 @@ fn is_first(answer: Answer, state: State, new: Anchor) -> bool
 // The first anchor: the log is formatted empty, and then the anchor is its first record.
 fn first_anchor(image: &mut [u8], log: Log, used: Used, sectors: usize, new: Anchor) -> Done
     requires { ⌜ FitForFirst (length (now image)) sectors log used ⌝ }
-    ensures { λ r. ⌜ ((cut : Bool) → ShowsDone (anchoredFirst new sectors (formatted [] sectors log (flashWith (now (image .entry)) used cut))) r (now (image .exit))) ⌝ }
+    ensures { λ r. ⌜ ((cut : Bool)
+        → ShowsDone (anchoredFirst new sectors (formatted [] sectors log (flashWith (now (image .entry)) used cut))) r
+        (now (image .exit))) ⌝ }
 {
     let f = decisions::format_with(image, log, used, sectors, records::empty_table(), 0);
     let answer = f.answer;

@@ -10,7 +10,8 @@ use borrow.Author.Tests.{eq-eqb, ne-eqb, eqb-false, lt-ltb, ltb-true, ltb-false}
 use Rattle.basics.specs.Choice.{pick}
 use Rattle.basics.specs.Answers.{isDone}
 use Rattle.basics.specs.declared.Answer.{Answer}
-use Rattle.basics.specs.declared.Answer.the-variants.{Done, BadImage, BadLog, BadId, NotFormatted, ReadError, WriteError, EraseError, KeystoreFull, IntegrityFailure}
+use Rattle.basics.specs.declared.Answer.the-variants.{Done, BadImage, BadLog, BadId, NotFormatted, ReadError, WriteError, EraseError}
+use Rattle.basics.specs.declared.Answer.the-variants.{KeystoreFull, IntegrityFailure}
 use Rattle.codec.specs.declared.Raw.{Raw}
 use Rattle.codec.specs.declared.OptRaw.{OptRaw}
 use Rattle.codec.specs.Slots.{noRaw, some, none}
@@ -44,7 +45,8 @@ module _ (n : ℕ) (log : Log) (known : Bool) where
       unfolding entryAnswer
       answer-done e = rw (ne-eqb n 0 image, fits, e)
 
-  pub entry-by : (tag id : ℕ) (a : Answer) → entryAnswer n log known ≡ a → pick (isDone a) (foundEntry tag id (recordsOf log)) (refusedEntry a) ≡ entryOf n log known tag id
+  pub entry-by : (tag id : ℕ) (a : Answer) → entryAnswer n log known ≡ a
+      → pick (isDone a) (foundEntry tag id (recordsOf log)) (refusedEntry a) ≡ entryOf n log known tag id
   unfolding entryOf
   entry-by tag id a e = ap (λ (x : Answer). pick (isDone x) (foundEntry tag id (recordsOf log)) (refusedEntry x)) (sym e)
 
@@ -57,9 +59,13 @@ module _ (tag id : ℕ) (t : List Raw) where
   unfolding heldOf
   held-at = go (holds tag id t) (sym (place-holds tag id t))
     where
-      go : (b : Bool) → b ≡ ltb (placeOf tag id t) (length t) → record { some = ltb (placeOf tag id t) (length t); raw = getD t (placeOf tag id t) noRaw } ≡ pick b (some (getD t (placeOf tag id t) noRaw)) none
+      go : (b : Bool) → b ≡ ltb (placeOf tag id t) (length t)
+          → record { some = ltb (placeOf tag id t) (length t); raw = getD t (placeOf tag id t) noRaw }
+          ≡ pick b (some (getD t (placeOf tag id t) noRaw)) none
       go true e = ap (λ (b : Bool). record { some = b; raw = getD t (placeOf tag id t) noRaw }) (sym e)
-      go false e = ap₂ (λ (b : Bool) (r : Raw). record { some = b; raw = r }) (sym e) (List·getD-eq-default t noRaw (ltb-false (placeOf tag id t) (length t) (sym e)))
+      go false e =
+          ap₂ (λ (b : Bool) (r : Raw). record { some = b; raw = r }) (sym e)
+          (List·getD-eq-default t noRaw (ltb-false (placeOf tag id t) (length t) (sym e)))
 
   pub room-at : length t ≤ limit → ltb at limit ≡ roomFor tag id t
   unfolding roomFor
@@ -78,7 +84,8 @@ pub let-in-by : (n : ℕ) (log : Log) (known : Bool) → isDone (entryAnswer n l
 unfolding entryAnswer
 let-in-by n log known = go (eqb n 0) refl (logFits n log) known
   where
-    go : (z : Bool) → eqb n 0 ≡ z → (f k : Bool) → isDone (pick z BadImage (pick f (pick k Done BadId) BadLog)) ≡ true → (n ≡ 0 → ⊥) × (f ≡ true) × (k ≡ true)
+    go : (z : Bool) → eqb n 0 ≡ z → (f k : Bool) → isDone (pick z BadImage (pick f (pick k Done BadId) BadLog)) ≡ true
+        → (n ≡ 0 → ⊥) × (f ≡ true) × (k ≡ true)
     go true e f k d = absurd (false≢true d)
     go false e true true d = (eqb-false n 0 e, refl, refl)
     go false e true false d = absurd (false≢true d)
@@ -120,7 +127,8 @@ module _ {A : Type 0} (by : State → OptRaw → A) (refused : Answer → A) (lo
   pub taken-in : isDone (entryAnswer 16 log known) ≡ true → readBy by refused log known tag id ≡ by (log .state) (heldOf tag id (recordsOf log))
   taken-in d = ap by-answer d
 
-module _ {A : Type 0} (by : State → OptRaw → A) (refused : Answer → A) (log : Log) (known : Bool) (tag id : ℕ) (e : Entry) (is-entry : e ≡ entryOf 16 log known tag id) where
+module _ {A : Type 0} (by : State → OptRaw → A) (refused : Answer → A) (log : Log) (known : Bool) (tag id : ℕ) (e : Entry)
+    (is-entry : e ≡ entryOf 16 log known tag id) where
   pub read-refused : isDone (e .answer) ≡ false → refused (e .answer) ≡ readBy by refused log known tag id
   read-refused d = sym (turned-away by refused log known tag id (e .answer) (sym (entry-answer 16 log known tag id e is-entry)) d)
 

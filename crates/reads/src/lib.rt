@@ -4,8 +4,11 @@
 mod held; // get, value, anchor: what is held of one key
 mod status; // lamport, needs_migration
 
-pub use held::{anchor, get, value};
-pub use status::{lamport, needs_migration};
+pub use held::anchor;
+pub use held::get;
+pub use held::value;
+pub use status::lamport;
+pub use status::needs_migration;
 
 // What stands here uses:
 use basics::Answer;

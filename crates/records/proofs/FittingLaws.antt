@@ -148,7 +148,9 @@ module _ (n : ℕ) (l : Log) where
 
   pub clauses-fit : Clauses n l → logFits n l ≡ true
   unfolding logFits
-  clauses-fit f = both (ap not (ne-eqb (l .«next_seq») 0 (f .numbered))) (both (le-leb (l .count) limit (f .few)) (both (f .stated) (both (f .clear) (f .keyed))))
+  clauses-fit f =
+      both (ap not (ne-eqb (l .«next_seq») 0 (f .numbered)))
+      (both (le-leb (l .count) limit (f .few)) (both (f .stated) (both (f .clear) (f .keyed))))
 
   module _ (fits : logFits n l ≡ true) where
     -- an Active log lies within the image
@@ -183,7 +185,8 @@ fits-larger n m l h e =
     larger Failed e = e
     larger (Active sector seq head) e =
         let p = state-placed n sector seq head (l .«next_seq») (l .count) e in
-        placed-state m sector seq head (l .«next_seq») (l .count) (record { within = omega (arith, p .within); low = p .low; high = p .high; later = p .later })
+        placed-state m sector seq head (l .«next_seq») (l .count)
+        (record { within = omega (arith, p .within); low = p .low; high = p .high; later = p .later })
 
 -- ---- a log that fits is its records and nothing else
 pub whole-take : (n : ℕ) (t : List Raw) → AllWhole t → AllWhole (take n t)
@@ -210,7 +213,8 @@ zeros-all : (t : List Raw) → AllWhole t → allZeros t ≡ true → t ≡ repl
 unfolding AllWhole allZeros
 zeros-all [] w e = refl
 zeros-all (r ∷ rs) w e =
-    ap₂ (λ (x : Raw) (xs : List Raw). x ∷ xs) (zeros-none r (w .0) (first (isZeros r) (allZeros rs) e)) (zeros-all rs (w .1) (second (isZeros r) (allZeros rs) e))
+    ap₂ (λ (x : Raw) (xs : List Raw). x ∷ xs) (zeros-none r (w .0) (first (isZeros r) (allZeros rs) e))
+    (zeros-all rs (w .1) (second (isZeros r) (allZeros rs) e))
 
 module _ (l : Log) (w : WholeLog l) where
   pub records-whole : AllWhole (recordsOf l)
@@ -225,7 +229,9 @@ module _ (l : Log) (w : WholeLog l) where
         let behind = drop (l .count) (l .table) in
         let free : length behind ≡ limit - length (recordsOf l) = length-drop (l .count) (l .table) ∙ omega (arith, w .size, records-length) in
         let zeros = zeros-all behind (whole-drop (l .count) (l .table) (w .whole)) (fits-clauses n l fits .clear) in
-        let table = sym (take-append-drop (l .count) (l .table)) ∙ ap (λ (x : List Raw). recordsOf l ++ x) (zeros ∙ ap (λ (k : ℕ). replicate k noRaw) free) in
+        let table =
+        sym (take-append-drop (l .count) (l .table))
+        ∙ ap (λ (x : List Raw). recordsOf l ++ x) (zeros ∙ ap (λ (k : ℕ). replicate k noRaw) free) in
         λ i. record { state = l .state; «next_seq» = l .«next_seq»; count = sym records-length i; table = table i }
 
 -- ---- what makes a log that fits
@@ -234,7 +240,8 @@ unfolding allZeros allAre
 replicate-zeros zero = refl
 replicate-zeros (suc n) = replicate-zeros n
 
-pub log-fits : (n : ℕ) (state : State) (next : ℕ) (t : List Raw) → (next ≡ 0 → ⊥) → length t ≤ limit → stateFits n state next (length t) ≡ true → keysFit t ≡ true
+pub log-fits : (n : ℕ) (state : State) (next : ℕ) (t : List Raw) → (next ≡ 0 → ⊥) → length t ≤ limit
+    → stateFits n state next (length t) ≡ true → keysFit t ≡ true
     → logFits n (logOf state next t) ≡ true
 log-fits n state next t numbered few stated keyed =
     clauses-fit n (logOf state next t) (record {

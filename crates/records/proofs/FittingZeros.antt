@@ -37,7 +37,9 @@ number-none [] = refl
 number-none (b ∷ bs) =
     alike (eqb (b + 256 * leNumber bs) 0) (eqb b 0 && eqb (leNumber bs) 0)
     (λ e. let none = eqb-true (b + 256 * leNumber bs) 0 e in both (eq-eqb b 0 (omega arith)) (eq-eqb (leNumber bs) 0 (omega arith)))
-    (λ e. let low = eqb-true b 0 (first (eqb b 0) (eqb (leNumber bs) 0) e) in let high = eqb-true (leNumber bs) 0 (second (eqb b 0) (eqb (leNumber bs) 0) e) in eq-eqb (b + 256 * leNumber bs) 0 (omega arith))
+    (λ e.
+    let low = eqb-true b 0 (first (eqb b 0) (eqb (leNumber bs) 0) e) in
+    let high = eqb-true (leNumber bs) 0 (second (eqb b 0) (eqb (leNumber bs) 0) e) in eq-eqb (b + 256 * leNumber bs) 0 (omega arith))
     ∙ ap (λ (t : Bool). eqb b 0 && t) (number-none bs)
 
 all-append : (v : ℕ) (xs ys : List ℕ) → allAre v (xs ++ ys) ≡ (allAre v xs && allAre v ys)

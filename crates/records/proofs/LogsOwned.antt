@@ -35,9 +35,15 @@ in-bytes (b ∷ bs) (u ∷ us) s = bytes-cons b bs (s .0 .1) (in-bytes bs us (s 
 
 one : (r : Raw) {vs : List Val} → shadow (raw.the-field .row .own (raw.the-field .into r) vs) → Whole r
 one r s = let body = s .1 .1 .1 .1 .0 in
-    record { tag-fits = s .1 .1 .0 .1; id-fits = s .1 .1 .1 .0 .1; ten = simp length-map at (body .1 .0 .1); bytes = in-bytes (r .body) (body .0) (body .1 .1) }
+    record {
+      tag-fits = s .1 .1 .0 .1;
+      id-fits = s .1 .1 .1 .0 .1;
+      ten = simp length-map at (body .1 .0 .1);
+      bytes = in-bytes (r .body) (body .0) (body .1 .1);
+    }
 
-all : (rs : List Raw) (us : List Val) → shadow (each (raw.the-field .row .Denot) (raw.the-field .row .own) (map (raw.the-field .into) rs) us) → AllWhole rs
+all : (rs : List Raw) (us : List Val)
+    → shadow (each (raw.the-field .row .Denot) (raw.the-field .row .own) (map (raw.the-field .into) rs) us) → AllWhole rs
 unfolding AllWhole
 all [] us s = tt
 all (r ∷ rs) [] s = absurd s

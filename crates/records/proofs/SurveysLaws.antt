@@ -53,8 +53,10 @@ pub keys-move : (xs : List Raw) (r : Raw) (ys : List Raw) → keysFit (xs ++ r �
 unfolding keysFit holds
 keys-move [] r ys = refl
 keys-move (e ∷ es) r ys =
-    ap₂ (λ (h k : Bool). not (eqb (e .tag) 0xFF) && (not h && k)) (holds-move (e .tag) (e .id) es r ys ∙ ap (λ (h : Bool). h || holds (e .tag) (e .id) (es ++ ys)) (key-sym r e)) (keys-move es r ys)
-    ∙ mixed (not (eqb (e .tag) 0xFF)) (not (eqb (r .tag) 0xFF)) (sameKey e r) (holds (e .tag) (e .id) (es ++ ys)) (holds (r .tag) (r .id) (es ++ ys)) (keysFit (es ++ ys))
+    ap₂ (λ (h k : Bool). not (eqb (e .tag) 0xFF) && (not h && k))
+    (holds-move (e .tag) (e .id) es r ys ∙ ap (λ (h : Bool). h || holds (e .tag) (e .id) (es ++ ys)) (key-sym r e)) (keys-move es r ys)
+    ∙ mixed (not (eqb (e .tag) 0xFF)) (not (eqb (r .tag) 0xFF)) (sameKey e r) (holds (e .tag) (e .id) (es ++ ys))
+    (holds (r .tag) (r .id) (es ++ ys)) (keysFit (es ++ ys))
   where
     mixed : (a c k b d f : Bool) → (a && (not (k || b) && (c && (not d && f)))) ≡ (c && (not (k || d) && (a && (not b && f))))
     mixed true true true b d f = refl
@@ -128,14 +130,21 @@ module _ {tag id : ℕ} {t : List Raw} {met tags ids : List ℕ} {at : ℕ} {hel
   is-met x y h = sym (place-holds x y (take i t)) ∙ lt-ltb (placeOf x y (take i t)) (length (take i t)) (omega (arith, place-passed x y, passed-long))
 
   pub not-met : (x y : ℕ) → i ≤ keyPlace x y (take i tags) (take i ids) → holds x y (take i t) ≡ false
-  not-met x y h = sym (place-holds x y (take i t)) ∙ le-ltb (placeOf x y (take i t)) (length (take i t)) (omega (arith, place-passed x y, passed-long))
+  not-met x y h =
+      sym (place-holds x y (take i t)) ∙ le-ltb (placeOf x y (take i t)) (length (take i t)) (omega (arith, place-passed x y, passed-long))
 
   -- all records passed
   pub finish : length t ≤ i → record { fits = true; at = at; held = held } ≡ surveyOf tag id t
   finish done =
       let all = take-all i t done in
-      let place = s .at-is ∙ ap (λ (l : List Raw). pick (holds tag id l) (placeOf tag id t) (length t)) all ∙ at-end (holds tag id t) (place-holds tag id t) in
-      let there = s .held-is ∙ ap (λ (l : List Raw). pick (holds tag id l) (getD t (placeOf tag id t) noRaw) noRaw) all ∙ held-end (holds tag id t) (place-holds tag id t) in
+      let place =
+      s .at-is
+      ∙ ap (λ (l : List Raw). pick (holds tag id l) (placeOf tag id t) (length t)) all
+      ∙ at-end (holds tag id t) (place-holds tag id t) in
+      let there =
+      s .held-is
+      ∙ ap (λ (l : List Raw). pick (holds tag id l) (getD t (placeOf tag id t) noRaw) noRaw) all
+      ∙ held-end (holds tag id t) (place-holds tag id t) in
       (λ k. record { fits = true; at = place k; held = there k })
       ∙ ap (λ (b : Bool). pick b (foundIn tag id t) misfitted) (sym (s .fit) ∙ ap keysFit all)
     where
@@ -171,7 +180,10 @@ module _ {tag id : ℕ} {t : List Raw} {met tags ids : List ℕ} {at : ℕ} {hel
 
     module _ (byte : r .id < 256) (tagged : r .tag ≡ 0xFF → ⊥) (fresh : holds (r .tag) (r .id) (take i t) ≡ false) where
       now-holds : (x y : ℕ) → holds x y (take (i + 1) t) ≡ (hasKey x y r || holds x y (take i t))
-      now-holds x y = ap (holds x y) longer ∙ holds-move x y (take i t) r [] ∙ ap (λ (l : List Raw). hasKey x y r || holds x y l) (append-nil (take i t))
+      now-holds x y =
+          ap (holds x y) longer
+          ∙ holds-move x y (take i t) r []
+          ∙ ap (λ (l : List Raw). hasKey x y r || holds x y l) (append-nil (take i t))
 
       now-fit : keysFit (take (i + 1) t) ≡ true
       unfolding keysFit
@@ -183,7 +195,13 @@ module _ {tag id : ℕ} {t : List Raw} {met tags ids : List ℕ} {at : ℕ} {hel
 
       now-unmet : (x y : ℕ) → getD (set met (r .id) 1) y 0 ≡ 0 → holds x y (take (i + 1) t) ≡ false
       now-unmet x y h =
-          let other : y ≡ r .id → ⊥ = λ e. absurd (marked (sym (getD-set-same met (r .id) 1 0 (omega (arith, s .met-long))) ∙ ap (λ (n : ℕ). getD (set met (r .id) 1) n 0) (sym e) ∙ h)) in
+          let other : y ≡ r .id → ⊥ =
+          λ e.
+          absurd
+          (marked
+          (sym (getD-set-same met (r .id) 1 0 (omega (arith, s .met-long)))
+          ∙ ap (λ (n : ℕ). getD (set met (r .id) 1) n 0) (sym e)
+          ∙ h)) in
           now-holds x y
           ∙ ap₂ (λ (a b : Bool). a || b)
           (ap (λ (b : Bool). eqb (r .tag) x && b) (ne-eqb (r .id) y (λ e. other (sym e))) ∙ and-false (eqb (r .tag) x))
@@ -222,7 +240,11 @@ module _ {tag id : ℕ} {t : List Raw} {met tags ids : List ℕ} {at : ℕ} {hel
           ∙ omega (arith, passed-long) in
           go-on i r
           (sym (ap (λ (b : Bool). pick b (placeOf tag id t) (length t)) new ∙ place))
-          (sym (ap (λ (b : Bool). pick b (getD t (placeOf tag id t) noRaw) noRaw) new ∙ ap (λ (n : ℕ). getD t n noRaw) place ∙ getD-any t i noRaw nowhere more ∙ here))
+          (sym
+          (ap (λ (b : Bool). pick b (getD t (placeOf tag id t) noRaw) noRaw) new
+          ∙ ap (λ (n : ℕ). getD t n noRaw) place
+          ∙ getD-any t i noRaw nowhere more
+          ∙ here))
 
       -- any other
       pub miss : hasKey tag id r ≡ false → Surveying tag id t (set met (r .id) 1) (set tags i (r .tag)) (set ids i (r .id)) at held (i + 1)

@@ -60,12 +60,14 @@ unfolding placeOf holds
 place-holds tag id [] = refl
 place-holds tag id (e ∷ es) = go (place-holds tag id es) (hasKey tag id e)
   where
-    go : ltb (placeOf tag id es) (length es) ≡ holds tag id es → (b : Bool) → ltb (pick b 0 (suc (placeOf tag id es))) (suc (length es)) ≡ (b || holds tag id es)
+    go : ltb (placeOf tag id es) (length es) ≡ holds tag id es → (b : Bool)
+        → ltb (pick b 0 (suc (placeOf tag id es))) (suc (length es)) ≡ (b || holds tag id es)
     go ih true = lt-ltb 0 (suc (length es)) (omega arith)
     go ih false = leb·suc-suc (suc (placeOf tag id es)) (length es) ∙ ih
 
 -- the record at the place has the key
-pub place-key : (tag id : ℕ) (t : List Raw) → placeOf tag id t < length t → hasKey tag id (getD t (placeOf tag id t) (record { tag = 0; id = 0; body = [] })) ≡ true
+pub place-key : (tag id : ℕ) (t : List Raw) → placeOf tag id t < length t
+    → hasKey tag id (getD t (placeOf tag id t) (record { tag = 0; id = 0; body = [] })) ≡ true
 unfolding placeOf
 place-key tag id [] h = absurd (omega arith)
 place-key tag id (e ∷ es) h = go (place-key tag id es) (hasKey tag id e) refl h

@@ -81,7 +81,8 @@ absorb-apart r (e ∷ es) a = go (absorb-apart r es (a .1)) (sameKey e r) refl (
     go ih false k f = (absorb-holds (e .tag) (e .id) r es (key-back e r k) ∙ a .0, ih)
 
 -- a key that is held keeps its place, so the order of the keys stays
-pub join-order : {A : Type 0} (f : Raw → A) (r : Raw) (t : List Raw) → ((e : Raw) → sameKey e r ≡ true → f e ≡ f r) → holds (r .tag) (r .id) t ≡ true → map f (joined r t) ≡ map f t
+pub join-order : {A : Type 0} (f : Raw → A) (r : Raw) (t : List Raw) → ((e : Raw) → sameKey e r ≡ true → f e ≡ f r)
+    → holds (r .tag) (r .id) t ≡ true → map f (joined r t) ≡ map f t
 unfolding joined holds
 join-order f r [] key h = absurd (false≢true h)
 join-order f r (e ∷ es) key h = go (join-order f r es key) (sameKey e r) refl h

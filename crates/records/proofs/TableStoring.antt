@@ -31,8 +31,10 @@ module _ (r : Raw) (t : List Raw) where
           → (set (places t) (placeOf (r .tag) (r .id) t) r ≡ places (joined r t)) × (pick b (length t + 1) (length t) ≡ length (joined r t))
       go true e =
           let new = eqb-true (placeOf (r .tag) (r .id) t) (length t) e in
-          let j = join-new r t new in
-          (ap (λ (k : ℕ). set (places t) k r) new ∙ places-add t r (omega (arith, free, new)) ∙ ap places (sym j), sym (ap length j ∙ length-append t (r ∷ [])))
+          let j = join-new r t new in (
+            ap (λ (k : ℕ). set (places t) k r) new ∙ places-add t r (omega (arith, free, new)) ∙ ap places (sym j),
+            sym (ap length j ∙ length-append t (r ∷ [])),
+          )
       go false e =
           let other = eqb-false (placeOf (r .tag) (r .id) t) (length t) e in
           let h : placeOf (r .tag) (r .id) t < length t = omega (arith, other, most) in
@@ -40,7 +42,8 @@ module _ (r : Raw) (t : List Raw) where
           (places-set t (placeOf (r .tag) (r .id) t) r h ∙ ap places (sym j), sym (ap length j ∙ length-set t (placeOf (r .tag) (r .id) t) r))
 
 pub new-most : (count at : ℕ) → count ≤ limit → at < limit → newCount count at ≤ limit
-new-most count at few free = by-test (λ (n : ℕ). n ≤ limit) (eqb at count) (count + 1) count (λ e. omega (arith, eqb-true at count e, free)) (λ e. few)
+new-most count at few free =
+    by-test (λ (n : ℕ). n ≤ limit) (eqb at count) (count + 1) count (λ e. omega (arith, eqb-true at count e, free)) (λ e. few)
 
 pub count-most : (count at : ℕ) → newCount count at ≤ count + 1
 count-most count at = by-test (λ (n : ℕ). n ≤ count + 1) (eqb at count) (count + 1) count (λ e. omega arith) (λ e. omega arith)

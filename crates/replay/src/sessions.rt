@@ -129,7 +129,8 @@ fn bad_line(out: &mut [u8], at: usize, n: u64)
 
 // The end of the input.
 pub fn ended(session: Session) -> Round
-    ensures { λ r. ⌜ (r .have ≡ 0) × ((r .session .at ≡ session .at) × ((r .session .now .len ≡ session .now .len) × (r .session .kept .len ≡ session .kept .len))) ⌝ }
+    ensures { λ r. ⌜ (r .have ≡ 0)
+        × ((r .session .at ≡ session .at) × ((r .session .now .len ≡ session .now .len) × (r .session .kept .len ≡ session .kept .len))) ⌝ }
 {
     let mut s = session;
     s.over = true;

@@ -52,7 +52,9 @@ module _ (H : ℕ → Header) (x : ℕ) where
   right-step Nothing (Valid q) e g = record {
     within = omega arith;
     own = e;
-    beats = each (λ (y o : ℕ). (o < q) ⊎ ((o ≡ q) × (x ≤ y))) (λ y o l k. absurd (valid-invalid (H y) o (g y l) k)) (λ o k. inr (valid-same (H x) o q k e, omega arith));
+    beats =
+        each (λ (y o : ℕ). (o < q) ⊎ ((o ≡ q) × (x ≤ y))) (λ y o l k. absurd (valid-invalid (H y) o (g y l) k))
+        (λ o k. inr (valid-same (H x) o q k e, omega arith));
   }
   right-step (Sector w q) Invalid e g = record {
     within = omega (arith, g .within);
@@ -73,12 +75,16 @@ module _ (H : ℕ → Header) (x : ℕ) where
       split true u = record {
         within = omega arith;
         own = e;
-        beats = each (λ (y o : ℕ). (o < p) ⊎ ((o ≡ p) × (x ≤ y))) (λ y o l k. lower y o (ltb-true q p u) (g .beats y o l k)) (λ o k. inr (valid-same (H x) o p k e, omega arith));
+        beats =
+            each (λ (y o : ℕ). (o < p) ⊎ ((o ≡ p) × (x ≤ y))) (λ y o l k. lower y o (ltb-true q p u) (g .beats y o l k))
+            (λ o k. inr (valid-same (H x) o p k e, omega arith));
       }
       split false u = record {
         within = omega (arith, g .within);
         own = g .own;
-        beats = each (λ (y o : ℕ). (o < q) ⊎ ((o ≡ q) × (w ≤ y))) (g .beats) (λ o k. newer o (valid-same (H x) o p k e) (ltb-false q p u) (eqb p q) refl);
+        beats =
+            each (λ (y o : ℕ). (o < q) ⊎ ((o ≡ q) × (w ≤ y))) (g .beats)
+            (λ o k. newer o (valid-same (H x) o p k e) (ltb-false q p u) (eqb p q) refl);
       }
 
 right-from : (H : ℕ → Header) (n x : ℕ) (b : Chosen) → Right H x b → Right H (x + n) (bestFrom n x H b)

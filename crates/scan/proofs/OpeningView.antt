@@ -71,7 +71,10 @@ module _ (a b : List ℕ) (long : length a ≡ length b) (alike : (s k : ℕ) �
   pub open-same : openOf a ≡ openOf b
   unfolding openOf
   open-same =
-      ap₂ (λ (m : ℕ) (r : RegionScan). pick {A = Opened} (eqb m 0) (record { answer = BadImage; log = logOf Failed 1 [] }) (record { answer = Done; log = logFrom r }))
+      ap₂
+      (λ (m : ℕ) (r : RegionScan).
+      pick {A = Opened} (eqb m 0) (record { answer = BadImage; log = logOf Failed 1 [] })
+      (record { answer = Done; log = logFrom r }))
       (ap sectorsIn long) (scan-same 2)
 
 -- ---- head
@@ -82,7 +85,8 @@ pub record Heads (slots : ℕ → List ℕ) (past head : ℕ) : Type 0 where
   pub behind : (k : ℕ) → head ≤ k → k < past → allAre 0xFF (slots k) ≡ true
   pub below : (head ≡ 1) ⊎ ((k : ℕ) × (head ≡ suc k) × (allAre 0xFF (slots k) ≡ false))
 
-head-step : (slots : ℕ → List ℕ) (k head : ℕ) → Heads slots k head → 1 ≤ k → (b : Bool) → allAre 0xFF (slots k) ≡ b → Heads slots (suc k) (pick b head (suc k))
+head-step : (slots : ℕ → List ℕ) (k head : ℕ) → Heads slots k head → 1 ≤ k → (b : Bool) → allAre 0xFF (slots k) ≡ b
+    → Heads slots (suc k) (pick b head (suc k))
 head-step slots k head h low true e = record {
   low = h .low;
   high = omega (arith, h .high);
@@ -105,8 +109,11 @@ unfolding headFrom
 heads-from slots zero k head h low = let none : k + 0 ≡ k = omega arith in rw none h
 heads-from slots (suc n) k head h low =
     let on : k + suc n ≡ suc k + n = omega arith in
-    rw on (heads-from slots n (suc k) (pick (allAre 0xFF (slots k)) head (suc k)) (head-step slots k head h low (allAre 0xFF (slots k)) refl) (omega arith))
+    rw on
+    (heads-from slots n (suc k) (pick (allAre 0xFF (slots k)) head (suc k)) (head-step slots k head h low (allAre 0xFF (slots k)) refl)
+    (omega arith))
 
 pub head-right : (slots : ℕ → List ℕ) → Heads slots 256 (headIn slots)
 head-right slots =
-    heads-from slots 255 1 1 (record { low = omega arith; high = omega arith; behind = λ k l u. absurd (omega arith); below = inl refl }) (omega arith)
+    heads-from slots 255 1 1 (record { low = omega arith; high = omega arith; behind = λ k l u. absurd (omega arith); below = inl refl })
+    (omega arith)

@@ -34,7 +34,8 @@ module _ (seq : ℕ) (slots : ℕ → List ℕ) where
   unfolding readFrom
   read-end k read h = let e : 256 - k ≡ 0 = omega arith in rw e
 
-  pub read-step : (k : ℕ) (read : Read) → k < 256 → readFrom (256 - k) k seq slots read ≡ readFrom (256 - (k + 1)) (k + 1) seq slots (withSlot seq (slots k) read)
+  pub read-step : (k : ℕ) (read : Read) → k < 256
+      → readFrom (256 - k) k seq slots read ≡ readFrom (256 - (k + 1)) (k + 1) seq slots (withSlot seq (slots k) read)
   unfolding readFrom
   read-step k read h =
       let e : 256 - k ≡ suc (256 - (k + 1)) = omega arith in
@@ -45,7 +46,8 @@ module _ (seq : ℕ) (slots : ℕ → List ℕ) where
   unfolding headFrom
   head-end k head h = let e : 256 - k ≡ 0 = omega arith in rw e
 
-  pub head-step : (k head : ℕ) → k < 256 → headFrom (256 - k) k slots head ≡ headFrom (256 - (k + 1)) (k + 1) slots (pick (allAre 0xFF (slots k)) head (k + 1))
+  pub head-step : (k head : ℕ) → k < 256
+      → headFrom (256 - k) k slots head ≡ headFrom (256 - (k + 1)) (k + 1) slots (pick (allAre 0xFF (slots k)) head (k + 1))
   unfolding headFrom
   head-step k head h =
       let e : 256 - k ≡ suc (256 - (k + 1)) = omega arith in
@@ -85,7 +87,10 @@ module _ (seq : ℕ) (slots : ℕ → List ℕ) where
       ids-are = s .ids-are;
       low = omega (arith, s .low);
       high = omega arith;
-      rest = ap (λ (o : OptRaw). readFrom (256 - (k + 1)) (k + 1) seq slots (withRecord o (s .found))) (sym (erased-none seq (slots k) erased)) ∙ sym (read-step k (these (s .found)) more) ∙ s .rest;
+      rest =
+          ap (λ (o : OptRaw). readFrom (256 - (k + 1)) (k + 1) seq slots (withRecord o (s .found))) (sym (erased-none seq (slots k) erased))
+          ∙ sym (read-step k (these (s .found)) more)
+          ∙ s .rest;
       heads = ap (λ (b : Bool). headFrom (256 - (k + 1)) (k + 1) slots (pick b head (k + 1))) (sym erased) ∙ sym (head-step k head more) ∙ s .heads;
     }
 
@@ -106,7 +111,17 @@ module _ (seq : ℕ) (slots : ℕ → List ℕ) where
         ids-are = s .ids-are;
         low = omega (arith, s .low);
         high = omega arith;
-        rest = ap (λ (b : Bool). readFrom (256 - (k + 1)) (k + 1) seq slots (pick b (pick (hasRoom limit (decoded seq (slots k) .raw) (s .found)) (these (absorbed (decoded seq (slots k) .raw) (s .found))) tooMany) (these (s .found)))) (sym no-record) ∙ sym (read-step k (these (s .found)) more) ∙ s .rest;
+        rest =
+            ap
+            (λ (b : Bool).
+            readFrom (256 - (k + 1)) (k + 1) seq slots
+            (pick b
+            (pick (hasRoom limit (decoded seq (slots k) .raw) (s .found))
+            (these (absorbed (decoded seq (slots k) .raw) (s .found))) tooMany)
+            (these (s .found))))
+            (sym no-record)
+            ∙ sym (read-step k (these (s .found)) more)
+            ∙ s .rest;
         heads = headed;
       }
 
@@ -124,10 +139,13 @@ module _ (seq : ℕ) (slots : ℕ → List ℕ) where
         held-room : at < count → hasRoom limit r (s .found) ≡ true
         held-room h =
             ap (λ (b : Bool). b || ltb (length (s .found)) limit)
-            (sym (place-holds (r .tag) (r .id) (s .found)) ∙ lt-ltb (placeOf (r .tag) (r .id) (s .found)) (length (s .found)) (omega (arith, s .size)))
+            (sym (place-holds (r .tag) (r .id) (s .found))
+            ∙ lt-ltb (placeOf (r .tag) (r .id) (s .found)) (length (s .found)) (omega (arith, s .size)))
 
         not-held : count ≤ at → holds (r .tag) (r .id) (s .found) ≡ false
-        not-held h = sym (place-holds (r .tag) (r .id) (s .found)) ∙ le-ltb (placeOf (r .tag) (r .id) (s .found)) (length (s .found)) (omega (arith, s .size))
+        not-held h =
+            sym (place-holds (r .tag) (r .id) (s .found))
+            ∙ le-ltb (placeOf (r .tag) (r .id) (s .found)) (length (s .found)) (omega (arith, s .size))
 
         add-room : count ≤ at → count < limit → hasRoom limit r (s .found) ≡ true
         add-room h room = ap₂ (λ (a b : Bool). a || b) (not-held h) (lt-ltb (length (s .found)) limit (omega (arith, s .size)))
@@ -150,11 +168,22 @@ module _ (seq : ℕ) (slots : ℕ → List ℕ) where
               standing = ap (λ (l : List Raw). set l at r) (s .standing) ∙ places-set (s .found) at r (omega (arith, s .size));
               tags-long = s .tags-long;
               ids-long = s .ids-long;
-              tags-are = s .tags-are ∙ sym (map-set-same (λ (x : Raw). x .tag) (s .found) at r nowhere (sym (eqb-true (held .tag) (r .tag) (first (eqb (held .tag) (r .tag)) (eqb (held .id) (r .id)) key))));
-              ids-are = s .ids-are ∙ sym (map-set-same (λ (x : Raw). x .id) (s .found) at r nowhere (sym (eqb-true (held .id) (r .id) (second (eqb (held .tag) (r .tag)) (eqb (held .id) (r .id)) key))));
+              tags-are =
+                  s .tags-are
+                  ∙ sym
+                  (map-set-same (λ (x : Raw). x .tag) (s .found) at r nowhere
+                  (sym (eqb-true (held .tag) (r .tag) (first (eqb (held .tag) (r .tag)) (eqb (held .id) (r .id)) key))));
+              ids-are =
+                  s .ids-are
+                  ∙ sym
+                  (map-set-same (λ (x : Raw). x .id) (s .found) at r nowhere
+                  (sym (eqb-true (held .id) (r .id) (second (eqb (held .tag) (r .tag)) (eqb (held .id) (r .id)) key))));
               low = omega (arith, s .low);
               high = omega arith;
-              rest = ap (λ (l : List Raw). readFrom (256 - (k + 1)) (k + 1) seq slots (these l)) (sym (absorb-join r (s .found) rises ∙ join-held r (s .found) (omega (arith, s .size)))) ∙ taken (held-room h);
+              rest =
+                  ap (λ (l : List Raw). readFrom (256 - (k + 1)) (k + 1) seq slots (these l))
+                  (sym (absorb-join r (s .found) rises ∙ join-held r (s .found) (omega (arith, s .size))))
+                  ∙ taken (held-room h);
               heads = headed;
             }
 
@@ -172,7 +201,10 @@ module _ (seq : ℕ) (slots : ℕ → List ℕ) where
               ids-are = s .ids-are;
               low = omega (arith, s .low);
               high = omega arith;
-              rest = ap (λ (l : List Raw). readFrom (256 - (k + 1)) (k + 1) seq slots (these l)) (sym (absorb-kept r (s .found) (omega (arith, s .size)) fell)) ∙ taken (held-room h);
+              rest =
+                  ap (λ (l : List Raw). readFrom (256 - (k + 1)) (k + 1) seq slots (these l))
+                  (sym (absorb-kept r (s .found) (omega (arith, s .size)) fell))
+                  ∙ taken (held-room h);
               heads = headed;
             }
 
@@ -180,7 +212,8 @@ module _ (seq : ℕ) (slots : ℕ → List ℕ) where
         new-key h = omega (arith, s .size, place-most (r .tag) (r .id) (s .found))
 
         -- a new key joins at the end
-        pub add : count ≤ at → count < limit → Scanning (set table count r) (set tags count (r .tag)) (set ids count (r .id)) (count + 1) (k + 1) (k + 1)
+        pub add : count ≤ at → count < limit
+            → Scanning (set table count r) (set tags count (r .tag)) (set ids count (r .id)) (count + 1) (k + 1) (k + 1)
         add h room =
             let t = s .found in
             record {
@@ -194,7 +227,9 @@ module _ (seq : ℕ) (slots : ℕ → List ℕ) where
               ids-are = beside-stored (λ (x : Raw). x .id) t r ids count (omega (arith, s .ids-long)) (s .ids-are);
               low = omega (arith, s .low);
               high = omega arith;
-              rest = ap (λ (l : List Raw). readFrom (256 - (k + 1)) (k + 1) seq slots (these l)) (sym (absorb-new r t (new-key h))) ∙ taken (add-room h room);
+              rest =
+                  ap (λ (l : List Raw). readFrom (256 - (k + 1)) (k + 1) seq slots (these l)) (sym (absorb-new r t (new-key h)))
+                  ∙ taken (add-room h room);
               heads = headed;
             }
 

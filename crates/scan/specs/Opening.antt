@@ -36,7 +36,8 @@ regionChosen image (Sector s seq) = regionRead s seq (headIn (slotAt image s)) (
 unfoldable pub scanOf : ℕ → List ℕ → RegionScan
 scanOf version image = regionChosen image (chosenOf version (sectorsIn (length image)) image)
 
--- "Next seq is the larger of 1 and highest seq plus 1, held at 4,294,967,295." The winner's seq is the highest; 1 where there is no winner or the log is Failed
+-- "Next seq is the larger of 1 and highest seq plus 1, held at 4,294,967,295." The winner's seq is the highest; 1 where there is no winner
+-- or the log is Failed
 abbrev pub nextOf : State → ℕ
 nextOf Unformatted = 1
 nextOf Failed = 1

@@ -4,7 +4,8 @@
 mod sector; // one pass over the slots of the sector that won
 mod opening; // open, and the scan of a region
 
-pub use opening::{open, scan_region};
+pub use opening::open;
+pub use opening::scan_region;
 
 // What stands here uses:
 use basics::Answer;
@@ -91,13 +92,7 @@ fn next_of(state: State) -> u32
             sector: _,
             seq,
             head: _,
-        } => {
-            if seq < SEQ_MAX {
-                seq + 1
-            } else {
-                SEQ_MAX
-            }
-        }
+        } => { if seq < SEQ_MAX { seq + 1 } else { SEQ_MAX } }
         State::Unformatted => 1,
         State::Failed => 1,
     }

@@ -42,7 +42,9 @@ above : (most v : ℕ) (ds : List ℕ) → most < v → amountFrom most v ds ≡
 unfolding amountFrom
 above most v ds k =
     let fits = leb (valueFrom v ds) most in
-    let none : allDigits ds && fits ≡ false = fails (allDigits ds && fits) (λ e. let z = leb-true (valueFrom v ds) most (second (allDigits ds) fits e) in omega (arith, grows v ds)) in
+    let none : allDigits ds && fits ≡ false =
+    fails (allDigits ds && fits)
+    (λ e. let z = leb-true (valueFrom v ds) most (second (allDigits ds) fits e) in omega (arith, grows v ds)) in
     rw none
 
 -- a loop over the word, from place i on, with v read so far
@@ -56,7 +58,8 @@ module _ (most : ℕ) (word : List ℕ) (i v : ℕ) where
     unfolding amountFrom valueFrom allDigits
     amount-not e = rw (drop-cons word i 0 h, e)
 
-    pub amount-further : isDigit (getD word i 0) ≡ true → amountFrom most v (drop i word) ≡ amountFrom most (10 * v + (getD word i 0 - 48)) (drop (i + 1) word)
+    pub amount-further : isDigit (getD word i 0) ≡ true
+        → amountFrom most v (drop i word) ≡ amountFrom most (10 * v + (getD word i 0 - 48)) (drop (i + 1) word)
     unfolding amountFrom valueFrom allDigits
     amount-further e = rw (add-one, drop-cons word i 0 h, e)
 

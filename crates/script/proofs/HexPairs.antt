@@ -43,7 +43,8 @@ pub no-first : (a b : ℕ) → 15 < hexValue a → byteOf a b ≡ Refused
 no-first a b h = rw (le-ltb (hexValue a) 16 (omega arith))
 
 pub no-second : (a b : ℕ) → 15 < hexValue b → byteOf a b ≡ Refused
-no-second a b h = rw (fails (arePair a b) (λ e. let k = ltb-true (hexValue b) 16 (second (ltb (hexValue a) 16) (ltb (hexValue b) 16) e) in omega arith))
+no-second a b h =
+    rw (fails (arePair a b) (λ e. let k = ltb-true (hexValue b) 16 (second (ltb (hexValue a) 16) (ltb (hexValue b) 16) e) in omega arith))
 
 pub a-pair : (a b : ℕ) → hexValue a ≤ 15 → hexValue b ≤ 15 → byteOf a b ≡ Is (pairOf a b)
 a-pair a b h k = rw (both (lt-ltb (hexValue a) 16 (omega arith)) (lt-ltb (hexValue b) 16 (omega arith)))
@@ -51,7 +52,8 @@ a-pair a b h k = rw (both (lt-ltb (hexValue a) 16 (omega arith)) (lt-ltb (hexVal
 -- behind the text's end there is none
 pub byte-outside : (at : ℕ) (text : List ℕ) → length text ≤ at + 1 → byteAt at text ≡ Refused
 unfolding byteAt
-byte-outside at text h = no-second (getD text at 0) (getD text (at + 1) 0) (rw (List·getD-eq-default text 0 h, value-below 0 (omega arith)) (omega arith))
+byte-outside at text h =
+    no-second (getD text at 0) (getD text (at + 1) 0) (rw (List·getD-eq-default text 0 h, value-below 0 (omega arith)) (omega arith))
 
 -- so a byte lies within the text
 pub byte-within : (at : ℕ) (text : List ℕ) (b : ℕ) → byteAt at text ≡ Is b → at + 1 < length text

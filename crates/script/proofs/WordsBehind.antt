@@ -45,13 +45,17 @@ amount-fits : (most v : ℕ) (word : List ℕ) → amountOf most word ≡ value.
 unfolding amountOf amountFrom
 amount-fits most v word = go (eqb (length word) 0)
   where
-    fits : (t : Bool) → t ≡ (allDigits word && leb (valueFrom 0 word) most) → pick t (value.Is (valueFrom 0 word)) value.Refused ≡ value.Is v → v ≤ most
+    fits : (t : Bool) → t ≡ (allDigits word && leb (valueFrom 0 word) most)
+        → pick t (value.Is (valueFrom 0 word)) value.Refused ≡ value.Is v → v ≤ most
     fits true t e =
         let same : valueFrom 0 word ≡ v = cc in
         omega (arith, leb-true (valueFrom 0 word) most (second (allDigits word) (leb (valueFrom 0 word) most) (sym t)))
     fits false t e = let z : _≡_ {A = ℕ} 0 1 = cc in absurd (omega arith)
 
-    go : (t : Bool) → pick t value.Refused (pick (allDigits word && leb (valueFrom 0 word) most) (value.Is (valueFrom 0 word)) value.Refused) ≡ value.Is v → v ≤ most
+    go : (t : Bool)
+        → pick t value.Refused (pick (allDigits word && leb (valueFrom 0 word) most) (value.Is (valueFrom 0 word)) value.Refused)
+        ≡ value.Is v
+        → v ≤ most
     go true e = let z : _≡_ {A = ℕ} 0 1 = cc in absurd (omega arith)
     go false e = fits (allDigits word && leb (valueFrom 0 word) most) refl e
 
@@ -63,6 +67,7 @@ number-fits most at v next text = go (spaceAt at text) (amountOf most (wordAt (a
     held (value.Is w) a e = let same : w ≡ v = cc in amount-fits most v (wordAt (at + 1) text) (sym a ∙ ap value.Is same)
     held value.Refused a e = let z : _≡_ {A = ℕ} 0 1 = cc in absurd (omega arith)
 
-    go : (t : Bool) (a : Value) → a ≡ amountOf most (wordAt (at + 1) text) → pick t (takenAt (endOf space (at + 1) text) a) taken.Refused ≡ taken.Number v next → v ≤ most
+    go : (t : Bool) (a : Value) → a ≡ amountOf most (wordAt (at + 1) text)
+        → pick t (takenAt (endOf space (at + 1) text) a) taken.Refused ≡ taken.Number v next → v ≤ most
     go true a h e = held a h e
     go false a h e = let z : _≡_ {A = ℕ} 0 1 = cc in absurd (omega arith)

@@ -42,7 +42,8 @@ unfolding upTo
 up-to-front stop [] = refl
 up-to-front stop (b ∷ bs) = go (up-to-front stop bs) (eqb b stop)
   where
-    go : take (length (upTo stop bs)) bs ≡ upTo stop bs → (t : Bool) → take (length (pick t [] (b ∷ upTo stop bs))) (b ∷ bs) ≡ pick t [] (b ∷ upTo stop bs)
+    go : take (length (upTo stop bs)) bs ≡ upTo stop bs → (t : Bool)
+        → take (length (pick t [] (b ∷ upTo stop bs))) (b ∷ bs) ≡ pick t [] (b ∷ upTo stop bs)
     go ih true = refl
     go ih false = ap (λ (l : List ℕ). b ∷ l) ih
 

@@ -40,15 +40,21 @@ erase-within s f = record { programmed = omega arith; erased = omega (arith, to-
 pub records-within : (s seq k : ℕ) (t : List Raw) (f : Flash) → Within (16 * length t) 0 f (writeRecords s seq k t f .flash)
 unfolding writeRecords
 records-within s seq k [] f = record { programmed = omega arith; erased = omega arith }
-records-within s seq k (r ∷ rs) f = go (records-within s seq (suc k) rs (program s k (slotOf seq r) f .flash)) (isDone (program s k (slotOf seq r) f .answer))
+records-within s seq k (r ∷ rs) f =
+    go (records-within s seq (suc k) rs (program s k (slotOf seq r) f .flash)) (isDone (program s k (slotOf seq r) f .answer))
   where
     go : Within (16 * length rs) 0 (program s k (slotOf seq r) f .flash) (writeRecords s seq (suc k) rs (program s k (slotOf seq r) f .flash) .flash)
-        → (b : Bool) → Within (16 * suc (length rs)) 0 f (pick b (writeRecords s seq (suc k) rs (program s k (slotOf seq r) f .flash)) (program s k (slotOf seq r) f) .flash)
-    go ih true = let w = program-within s k (slotOf seq r) f in record { programmed = omega (arith, w .programmed, ih .programmed); erased = omega (arith, w .erased, ih .erased) }
+        → (b : Bool)
+        → Within (16 * suc (length rs)) 0 f
+        (pick b (writeRecords s seq (suc k) rs (program s k (slotOf seq r) f .flash)) (program s k (slotOf seq r) f) .flash)
+    go ih true =
+        let w = program-within s k (slotOf seq r) f in
+        record { programmed = omega (arith, w .programmed, ih .programmed); erased = omega (arith, w .erased, ih .erased) }
     go ih false = let w = program-within s k (slotOf seq r) f in record { programmed = omega (arith, w .programmed); erased = w .erased }
 
 -- what follows a step costs no more than both
-pub done-within : (p e q d : ℕ) (f : Flash) (o : Stepped) (next : Flash → Stepped) → Within p e f (o .flash) → ((g : Flash) → Within q d g (next g .flash))
+pub done-within : (p e q d : ℕ) (f : Flash) (o : Stepped) (next : Flash → Stepped) → Within p e f (o .flash)
+    → ((g : Flash) → Within q d g (next g .flash))
     → Within (p + q) (e + d) f (onDone o next .flash)
 done-within p e q d f o next a b =
     by-test (λ (r : Stepped). Within (p + q) (e + d) f (r .flash)) (isDone (o .answer)) (next (o .flash)) o
@@ -61,7 +67,10 @@ sector-within s seq t f =
     let w =
     done-within 0 4096 (16 * length t + 16) 0 f (erase s f)
     (λ (g : Flash). onDone (writeRecords s seq 1 t g) (λ (h : Flash). program s 0 (headerSlot seq) h)) (erase-within s f)
-    (λ g. done-within (16 * length t) 0 16 0 g (writeRecords s seq 1 t g) (λ (h : Flash). program s 0 (headerSlot seq) h) (records-within s seq 1 t g) (λ h. program-within s 0 (headerSlot seq) h)) in
+    (λ g.
+    done-within (16 * length t) 0 16 0 g (writeRecords s seq 1 t g) (λ (h : Flash). program s 0 (headerSlot seq) h)
+    (records-within s seq 1 t g) (λ h. program-within s 0 (headerSlot seq) h))
+    in
     record { programmed = omega (arith, w .programmed); erased = omega (arith, w .erased) }
 
 pub tries-within : (m s head : ℕ) (bytes : List ℕ) (last : Answer) (f : Flash) → Within (16 * m) 0 f (triesFrom m s head bytes last f .flash)
@@ -76,7 +85,8 @@ tries-within (suc m) s head bytes last f =
     (pick (isDone (o .answer)) (record { full = false; answer = Done; head = head + 1; flash = o .flash }) again)
     (λ e. record { programmed = omega arith; erased = omega arith })
     (λ e.
-    by-test (λ (r : SlotTries). Within (16 * suc m) 0 f (r .flash)) (isDone (o .answer)) (record { full = false; answer = Done; head = head + 1; flash = o .flash }) again
+    by-test (λ (r : SlotTries). Within (16 * suc m) 0 f (r .flash)) (isDone (o .answer))
+    (record { full = false; answer = Done; head = head + 1; flash = o .flash }) again
     (λ d. record { programmed = omega (arith, w .programmed); erased = omega (arith, w .erased) })
     (λ d. record { programmed = omega (arith, w .programmed, ih .programmed); erased = omega (arith, w .erased, ih .erased) }))
 

@@ -33,11 +33,14 @@ module _ (s seq : ℕ) (t : List Raw) (i : ℕ) (f : Flash) where
   abbrev pub one : Stepped
   one = program s (i + 1) (slotOf seq (getD t i nowhere)) f
 
-  opened : i < length t → writeRecords s seq (i + 1) (drop i t) f ≡ pick (isDone (one .answer)) (writeRecords s seq (suc (i + 1)) (drop (suc i) t) (one .flash)) one
+  opened : i < length t
+      → writeRecords s seq (i + 1) (drop i t) f
+      ≡ pick (isDone (one .answer)) (writeRecords s seq (suc (i + 1)) (drop (suc i) t) (one .flash)) one
   unfolding writeRecords
   opened h = rw (drop-cons t i nowhere h)
 
-  pub records-on : i < length t → isDone (one .answer) ≡ true → writeRecords s seq (i + 1) (drop i t) f ≡ writeRecords s seq (i + 1 + 1) (drop (i + 1) t) (one .flash)
+  pub records-on : i < length t → isDone (one .answer) ≡ true
+      → writeRecords s seq (i + 1) (drop i t) f ≡ writeRecords s seq (i + 1 + 1) (drop (i + 1) t) (one .flash)
   records-on h d =
       let next : suc (i + 1) ≡ i + 1 + 1 = omega arith in
       let there : suc i ≡ i + 1 = omega arith in
@@ -64,7 +67,8 @@ module _ (s seq : ℕ) (t : List Raw) (f : Flash) where
   unfolding writeSector
   sector-unfilled e d = rw (e, d)
 
-  pub sector-headed : isDone (erase s f .answer) ≡ true → isDone (filled .answer) ≡ true → writeSector s seq t f ≡ program s 0 (headerSlot seq) (filled .flash)
+  pub sector-headed : isDone (erase s f .answer) ≡ true → isDone (filled .answer) ≡ true
+      → writeSector s seq t f ≡ program s 0 (headerSlot seq) (filled .flash)
   unfolding writeSector
   sector-headed e d = rw (e, d)
 
@@ -81,18 +85,22 @@ module _ (left n avoid s : ℕ) (t : List Raw) (last : Answer) (state : State) (
   commit-skip e = ap (λ (m : ℕ). commitFrom m n avoid s t last state next f) unrolled ∙ rw (eq-eqb s avoid e)
 
   module _ (apart : s ≡ avoid → ⊥) where
-    pub commit-used-up : next ≡ seqMax → commitFrom left n avoid s t last state next f ≡ record { answer = WriteError; state = state; next = next; flash = f }
+    pub commit-used-up : next ≡ seqMax
+        → commitFrom left n avoid s t last state next f ≡ record { answer = WriteError; state = state; next = next; flash = f }
     unfolding commitFrom
     commit-used-up e = ap (λ (m : ℕ). commitFrom m n avoid s t last state next f) unrolled ∙ rw (ne-eqb s avoid apart, eq-eqb next seqMax e)
 
     module _ (fresh : next ≡ seqMax → ⊥) where
       pub commit-done : isDone (writeSector s next t f .answer) ≡ true
-          → commitFrom left n avoid s t last state next f ≡ record { answer = Done; state = Active s next (length t + 1); next = next + 1; flash = writeSector s next t f .flash }
+          → commitFrom left n avoid s t last state next f
+          ≡ record { answer = Done; state = Active s next (length t + 1); next = next + 1; flash = writeSector s next t f .flash }
       unfolding commitFrom
       commit-done d = ap (λ (m : ℕ). commitFrom m n avoid s t last state next f) unrolled ∙ rw (ne-eqb s avoid apart, ne-eqb next seqMax fresh, d)
 
       pub commit-on : isDone (writeSector s next t f .answer) ≡ false
-          → commitFrom left n avoid s t last state next f ≡ commitFrom (left - 1) n avoid (sectorAfter n s) t (writeSector s next t f .answer) state (next + 1) (writeSector s next t f .flash)
+          → commitFrom left n avoid s t last state next f
+          ≡ commitFrom (left - 1) n avoid (sectorAfter n s) t (writeSector s next t f .answer) state (next + 1)
+          (writeSector s next t f .flash)
       unfolding commitFrom
       commit-on d = ap (λ (m : ℕ). commitFrom m n avoid s t last state next f) unrolled ∙ rw (ne-eqb s avoid apart, ne-eqb next seqMax fresh, d)
 
@@ -122,16 +130,19 @@ module _ (left s head : ℕ) (bytes : List ℕ) (last : Answer) (f : Flash) wher
       tries-done d = ap (λ (m : ℕ). triesFrom m s head bytes last f) unwound ∙ rw (ne-eqb head 256 room, d)
 
       pub tries-on : isDone (program s head bytes f .answer) ≡ false
-          → triesFrom left s head bytes last f ≡ triesFrom (left - 1) s (head + 1) bytes (program s head bytes f .answer) (program s head bytes f .flash)
+          → triesFrom left s head bytes last f
+          ≡ triesFrom (left - 1) s (head + 1) bytes (program s head bytes f .answer) (program s head bytes f .flash)
       unfolding triesFrom
       tries-on d = ap (λ (m : ℕ). triesFrom m s head bytes last f) unwound ∙ rw (ne-eqb head 256 room, d)
 
 -- ---- an append, by what its tries come to
-module _ (n s seq head next : ℕ) (r : Raw) (t : List Raw) (f : Flash) (w : SlotTries) (tried : triesFrom 3 s head (slotOf seq r) WriteError f ≡ w) where
+module _ (n s seq head next : ℕ) (r : Raw) (t : List Raw) (f : Flash) (w : SlotTries)
+    (tried : triesFrom 3 s head (slotOf seq r) WriteError f ≡ w) where
   pub append-full : w .full ≡ true → appendOf n s seq head next r t f ≡ commitAfter n s t (Active s seq (w .head)) next (w .flash)
   unfolding appendOf
   append-full e = rw (tried, e)
 
-  pub append-tried : w .full ≡ false → appendOf n s seq head next r t f ≡ record { answer = w .answer; state = Active s seq (w .head); next = next; flash = w .flash }
+  pub append-tried : w .full ≡ false
+      → appendOf n s seq head next r t f ≡ record { answer = w .answer; state = Active s seq (w .head); next = next; flash = w .flash }
   unfolding appendOf
   append-tried e = rw (tried, e)

@@ -8,7 +8,8 @@ use Rattle.sectors.specs.declared.Tried as tried
 use Rattle.sectors.specs.Appends.{SlotTries}
 use Rattle.sectors.specs.Shown.{flashWith, ShowsStep, ShowsTried}
 
-pub step-is : (o : Stepped) (r : Step) (image : List ℕ) → ShowsStep o r image → o ≡ record { answer = r .answer; flash = flashWith image (r .used) (o .flash .cut) }
+pub step-is : (o : Stepped) (r : Step) (image : List ℕ) → ShowsStep o r image
+    → o ≡ record { answer = r .answer; flash = flashWith image (r .used) (o .flash .cut) }
 step-is o r image g =
     let e = g .shown in
     let l = g .left in

@@ -19,7 +19,8 @@ ghost use Rattle.sectors.specs.Shown.{flashWith, ShowsWrote, ShowsTried}
 // Up to three tries of a slot, each in a new place; `full` where head reaches 256 first.
 fn try_slots(image: &mut [u8], sector: usize, head: u32, bytes: [u8; 16], used: Used) -> Tried
     requires { ⌜ (head ≤ 256) × HasSector (length (now image)) sector × SlotsMore 3 used ⌝ }
-    ensures { λ r. ⌜ ((cut : Bool) → ShowsTried (triesFrom 3 sector head bytes WriteError (flashWith (now (image .entry)) used cut)) r (now (image .exit))) ⌝ }
+    ensures { λ r. ⌜ ((cut : Bool)
+        → ShowsTried (triesFrom 3 sector head bytes WriteError (flashWith (now (image .entry)) used cut)) r (now (image .exit))) ⌝ }
 {
     let mut answer = Answer::WriteError;
     let mut h = head;
@@ -70,7 +71,10 @@ pub fn append(
     used: Used,
 ) -> Wrote
     requires { ⌜ CanAppend (length (now image)) sectors sector head count used ⌝ }
-    ensures { λ r. ⌜ ((cut : Bool) → ShowsWrote (appendOf sectors sector seq head «next_seq» «record» (take count table) (flashWith (now (image .entry)) used cut)) r (now (image .exit))) ⌝ }
+    ensures { λ r. ⌜ ((cut : Bool)
+        → ShowsWrote
+        (appendOf sectors sector seq head «next_seq» «record» (take count table) (flashWith (now (image .entry)) used cut)) r
+        (now (image .exit))) ⌝ }
 {
     let w = try_slots(image, sector, head, codec::encode(record, seq), used);
     let here = State::Active {

@@ -38,7 +38,11 @@ pub fn commit(
     used: Used,
 ) -> Wrote
     requires { ⌜ CanCommit (length (now image)) sectors count used × (first < sectors) ⌝ }
-    ensures { λ r. ⌜ ((cut : Bool) → ShowsWrote (commitFrom sectors sectors avoid first (take count table) WriteError state «next_seq» (flashWith (now (image .entry)) used cut)) r (now (image .exit))) ⌝ }
+    ensures { λ r. ⌜ ((cut : Bool)
+        → ShowsWrote
+        (commitFrom sectors sectors avoid first (take count table) WriteError state «next_seq»
+        (flashWith (now (image .entry)) used cut))
+        r (now (image .exit))) ⌝ }
 {
     let mut answer = Answer::WriteError;
     let mut next = next_seq;

@@ -22,7 +22,8 @@ fn write_records(
     used: Used,
 ) -> Step
     requires { ⌜ (count ≤ limit) × HasSector (length (now image)) sector × SlotsMore count used ⌝ }
-    ensures { λ r. ⌜ ((cut : Bool) → ShowsStep (writeRecords sector seq 1 (take count table) (flashWith (now (image .entry)) used cut)) r (now (image .exit))) ⌝ }
+    ensures { λ r. ⌜ ((cut : Bool)
+        → ShowsStep (writeRecords sector seq 1 (take count table) (flashWith (now (image .entry)) used cut)) r (now (image .exit))) ⌝ }
 {
     let start = codec::under(seq);
     let mut u = used;
@@ -53,7 +54,8 @@ pub fn write_sector(
     used: Used,
 ) -> Step
     requires { ⌜ (count ≤ limit) × HasSector (length (now image)) sector × SlotsMore (count + 1) used × SectorsMore 1 used ⌝ }
-    ensures { λ r. ⌜ ((cut : Bool) → ShowsStep (writeSector sector seq (take count table) (flashWith (now (image .entry)) used cut)) r (now (image .exit))) ⌝ }
+    ensures { λ r. ⌜ ((cut : Bool)
+        → ShowsStep (writeSector sector seq (take count table) (flashWith (now (image .entry)) used cut)) r (now (image .exit))) ⌝ }
 {
     let e = crate::erase(image, sector, used);
     let erased = e.answer;

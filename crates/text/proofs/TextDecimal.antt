@@ -83,7 +83,11 @@ module _ (x : ℕ) (places : List ℕ) (first rest : ℕ) (s : Spelling x places
         most = omega (arith, s .most);
         long = length-set places (first - 1) (48 + rest % 10) ∙ s .long;
         fits = omega (arith, pow-suc 10 (first - 1));
-        spells = ap (digits (first - 1) (rest / 10)) (stored (48 + rest % 10)) ∙ sym (digits-more (first - 1) rest (drop first places) h) ∙ ap (λ (n : ℕ). digits n rest (drop first places)) (sym below) ∙ s .spells;
+        spells =
+            ap (digits (first - 1) (rest / 10)) (stored (48 + rest % 10))
+            ∙ sym (digits-more (first - 1) rest (drop first places) h)
+            ∙ ap (λ (n : ℕ). digits n rest (drop first places)) (sym below)
+            ∙ s .spells;
       }
     where
       two : (n : ℕ) → rest < 10 ^ suc n → 0 < n

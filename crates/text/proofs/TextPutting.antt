@@ -16,14 +16,18 @@ put-none before at = record { past = omega arith; left = sym (splice-same at 0 b
 
 -- one byte stored
 pub put-one : (before : List ℕ) (at b : ℕ) → at < length before → Puts before at (b ∷ []) (set before at b) (at + 1)
-put-one before at b h = record { past = refl; left = set-split before at b h ∙ ap (λ (l : List ℕ). take at before ++ (b ∷ l)) (rw (drop-drop 1 at before, add-one)) }
+put-one before at b h =
+    record
+    { past = refl; left = set-split before at b h ∙ ap (λ (l : List ℕ). take at before ++ (b ∷ l)) (rw (drop-drop 1 at before, add-one)) }
 
 -- the buffer keeps its length
-pub put-length : {before text after : List ℕ} {at r : ℕ} → Puts before at text after r → at + length text ≤ length before → length after ≡ length before
+pub put-length : {before text after : List ℕ} {at r : ℕ} → Puts before at text after r → at + length text ≤ length before
+    → length after ≡ length before
 put-length {before} {text} {after} {at} p room = ap length (p .left) ∙ splice-length at (length text) text before room refl
 
 -- text that was put into a buffer lies within it
-pub put-within : {before text after : List ℕ} {at r : ℕ} → Puts before at text after r → at ≤ length before → length after ≡ length before → r ≤ length before
+pub put-within : {before text after : List ℕ} {at r : ℕ} → Puts before at text after r → at ≤ length before → length after ≡ length before
+    → r ≤ length before
 put-within {before} {text} {after} {at} p h same =
     omega
     (arith, p .past, length-take-le at before h, simp (length-append, length-drop) at (ap length (p .left)))
@@ -38,11 +42,13 @@ module _ (before : List ℕ) (at : ℕ) (t u : List ℕ) (room : at + length t �
       let rest = drop (length t) (drop at before) in
       let parts = sym (append-assoc (take at before) t rest) in
       ap (splice (at + length t) (length u) u) parts
-      ∙ ap₂ (λ (a b : List ℕ). a ++ (u ++ drop (length u) b)) (take-at (take at before ++ t) rest (at + length t) front) (drop-at (take at before ++ t) rest (at + length t) front)
+      ∙ ap₂ (λ (a b : List ℕ). a ++ (u ++ drop (length u) b)) (take-at (take at before ++ t) rest (at + length t) front)
+      (drop-at (take at before ++ t) rest (at + length t) front)
       ∙ append-assoc (take at before) t (u ++ drop (length u) rest)
       ∙ ap (λ (l : List ℕ). take at before ++ l)
       (sym (append-assoc t u (drop (length u) rest))
-      ∙ ap (λ (l : List ℕ). (t ++ u) ++ l) (drop-drop (length u) (length t) (drop at before) ∙ ap (λ (n : ℕ). drop n (drop at before)) (sym (length-append t u))))
+      ∙ ap (λ (l : List ℕ). (t ++ u) ++ l)
+      (drop-drop (length u) (length t) (drop at before) ∙ ap (λ (n : ℕ). drop n (drop at before)) (sym (length-append t u))))
 
   pub put-then : {middle after : List ℕ} {q r : ℕ} → Puts before at t middle q → Puts middle q u after r → Puts before at (t ++ u) after r
   put-then {middle} {after} {q} {r} p s = record {
@@ -76,7 +82,8 @@ module _ {before : List ℕ} {at : ℕ} {whole : List ℕ} (room : at + length w
   piece-fits t rest b = omega (arith, room-left b, length-append t rest)
 
   -- the next piece
-  pub next : {t rest middle after : List ℕ} {q r : ℕ} → Begun before at whole (t ++ rest) middle q → Puts middle q t after r → Begun before at whole rest after r
+  pub next : {t rest middle after : List ℕ} {q r : ℕ} → Begun before at whole (t ++ rest) middle q → Puts middle q t after r
+      → Begun before at whole rest after r
   next {t} {rest} b p = record {
     done = b .done ++ t;
     stands = put-then before at (b .done) t (omega (arith, sizes b)) (b .stands) p;
@@ -85,7 +92,8 @@ module _ {before : List ℕ} {at : ℕ} {whole : List ℕ} (room : at + length w
 
   -- the last piece
   pub last : {t middle after : List ℕ} {q r : ℕ} → Begun before at whole t middle q → Puts middle q t after r → Puts before at whole after r
-  last {t} {middle} {after} {q} {r} b p = subst (λ (l : List ℕ). Puts before at l after r) (b .lacks) (put-then before at (b .done) t (omega (arith, sizes b)) (b .stands) p)
+  last {t} {middle} {after} {q} {r} b p =
+      subst (λ (l : List ℕ). Puts before at l after r) (b .lacks) (put-then before at (b .done) t (omega (arith, sizes b)) (b .stands) p)
 
   -- nothing is left
   pub ended : {after : List ℕ} {r : ℕ} → Begun before at whole [] after r → Puts before at whole after r

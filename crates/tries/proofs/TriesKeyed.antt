@@ -18,7 +18,8 @@ use Rattle.tries.specs.Tries.{startOf, spentBy, spendFrom, setDecision, 
 pub spend-keyed : (s : CounterState) (room : Bool) (credential : ℕ) → Keyed counterTag credential room (spendFrom s room credential)
 unfolding spendFrom
 spend-keyed s room credential =
-    keyed-pick counterTag credential room (eqb (remainingOf s) 0) (give 0) (spentBy room credential (remainingOf s) (failedOf s)) (silent counterTag credential room (give 0) refl) (go (failedOf s))
+    keyed-pick counterTag credential room (eqb (remainingOf s) 0) (give 0) (spentBy room credential (remainingOf s) (failedOf s))
+    (silent counterTag credential room (give 0) refl) (go (failedOf s))
   where
     go : (x : Next) → Keyed counterTag credential room (spentBy room credential (remainingOf s) x)
     go (next.Refused a) = silent counterTag credential room (refuse a) refl
@@ -28,11 +29,13 @@ pub set-keyed : (held : OptRaw) (room : Bool) (credential tries : ℕ) → Keyed
 unfolding setDecision
 set-keyed held room credential tries =
     let r = counterRecord credential (resetOf (startOf held tries) tries) in
-    keyed-pick counterTag credential room (held .some && eqb (remainingOf (startOf held tries)) tries) (give 0) (write room r 0) (silent counterTag credential room (give 0) refl)
+    keyed-pick counterTag credential room (held .some && eqb (remainingOf (startOf held tries)) tries) (give 0) (write room r 0)
+    (silent counterTag credential room (give 0) refl)
     (keyed-write counterTag credential room r 0 refl refl)
 
 pub advance-keyed : (most : ℕ) (room : Bool) → Keyed valueTag lamport room (advanceFrom most room)
 unfolding advanceFrom
 advance-keyed most room =
-    keyed-pick valueTag lamport room (eqb most lamportMax) (refuse WriteError) (write room (valueRecord lamport (most + 1)) (most + 1)) (silent valueTag lamport room (refuse WriteError) refl)
+    keyed-pick valueTag lamport room (eqb most lamportMax) (refuse WriteError) (write room (valueRecord lamport (most + 1)) (most + 1))
+    (silent valueTag lamport room (refuse WriteError) refl)
     (keyed-write valueTag lamport room (valueRecord lamport (most + 1)) (most + 1) refl refl)

@@ -65,7 +65,8 @@ spendOf image log plan credential current =
     entered image log plan (isCredential credential)
     (decided counterTag credential (λ (held : OptRaw) (room : Bool). spendDecision held room credential current))
 
--- ---- set: "writes nothing if remaining is already that number; otherwise at-reset becomes total and the allowance that number (total 0 where no record is held)"
+-- ---- set: "writes nothing if remaining is already that number; otherwise at-reset becomes total and the allowance that number (total 0
+-- where no record is held)"
 unfoldable pub setDecision : OptRaw → Bool → ℕ → ℕ → Decision
 setDecision held room credential tries =
     pick (held .some && eqb (remainingOf (startOf held tries)) tries) (give 0)

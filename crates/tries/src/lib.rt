@@ -5,7 +5,8 @@ mod spends; // spend, set
 mod clock; // advance_lamport
 
 pub use clock::advance_lamport;
-pub use spends::{set, spend};
+pub use spends::set;
+pub use spends::spend;
 
 // What stands here uses:
 use basics::Answer;

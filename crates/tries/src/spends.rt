@@ -41,7 +41,8 @@ fn spend_from(s: CounterState, room: bool, credential: u8) -> Decision
     }
 }
 
-// Spends one try: it is on flash before this answers with the tries there were. Of 0 tries nothing is written. Where no record is held it starts from `current`.
+// Spends one try: it is on flash before this answers with the tries there were. Of 0 tries nothing is written. Where no record is held it
+// starts from `current`.
 pub fn spend(image: &mut [u8], log: Log, plan: Plan, credential: u8, current: u8) -> Done
     ensures { λ r. ⌜ ShowsDone (spendOf (now (image .entry)) log plan credential current) r (now (image .exit)) ⌝ }
 {

@@ -31,7 +31,8 @@ use Rattle.demands.specs.Chance.{cutAt}
 use Rattle.demands.specs.Healthy.{healthy}
 use Rattle.demands.specs.Sessions.{World, opened, Made, outcome, Lasts}
 use Rattle.demands.specs.PulledStick.{triesIn, Has}
-use Rattle.witnesses.specs.Sticks.{pin, pulledAfter, blankStick, newStick, fullStick, unlucky, unluckyStick, logWith, unspent, spent, torn, formatting, spendOn, refusals}
+use Rattle.witnesses.specs.Sticks.{pin, pulledAfter, blankStick, newStick, fullStick, unlucky, unluckyStick, logWith, unspent, spent}
+use Rattle.witnesses.specs.Sticks.{torn, formatting, spendOn, refusals}
 use Rattle.witnesses.specs.Computed.{numbers, Pulled, Spends, Computed}
 
 -- ---- the sticks opened
@@ -41,7 +42,9 @@ pub record Opens : Type 0 where
   pub chance : openOf unluckyStick .log ≡ logWith unlucky 2 unspent
 
 pub opens : Opens
-unfolding newStick fullStick unluckyStick heldOf startOf remainingOf placeOf sectorsIn allAre placeFrom joined openOf scanOf bestFrom readFrom headFrom decoded decodedWith absorbed falls isMonotonic headerOf slotAt withSlot same slotOf crcUnder crc32Of feed eat turns turn finished leBytes leNumber headerSlot holds
+unfolding newStick fullStick unluckyStick heldOf startOf remainingOf placeOf sectorsIn allAre placeFrom joined openOf scanOf bestFrom
+    readFrom headFrom decoded decodedWith absorbed falls isMonotonic headerOf slotAt withSlot same slotOf crcUnder crc32Of feed eat turns
+    turn finished leBytes leNumber headerSlot holds
 opens = record { new = refl; full = refl; chance = refl }
 
 -- the tries on the torn ones
@@ -58,11 +61,15 @@ pub record OpensTorn : Type 0 where
   pub chance : openOf (torn 0 2 8 (slotOf unlucky spent) unluckyStick) .log ≡ logWith unlucky 3 (rawOf (cutAt 8 (slotOf unlucky spent)))
 
 pub opens-torn : OpensTorn
-unfolding newStick fullStick unluckyStick heldOf startOf remainingOf placeOf sectorsIn allAre placeFrom joined openOf scanOf bestFrom readFrom headFrom decoded decodedWith absorbed falls isMonotonic headerOf slotAt withSlot same slotOf crcUnder crc32Of feed eat turns turn finished leBytes leNumber headerSlot holds
+unfolding newStick fullStick unluckyStick heldOf startOf remainingOf placeOf sectorsIn allAre placeFrom joined openOf scanOf bestFrom
+    readFrom headFrom decoded decodedWith absorbed falls isMonotonic headerOf slotAt withSlot same slotOf crcUnder crc32Of feed eat turns
+    turn finished leBytes leNumber headerSlot holds
 opens-torn = record { append = refl; rec = refl; chance = refl }
 
 pub opens-headed : (tries (headed 5) ≡ 3) × (tries (headed 15) ≡ 3)
-unfolding fullStick heldOf startOf remainingOf placeOf sectorsIn allAre placeFrom joined openOf scanOf bestFrom readFrom headFrom decoded decodedWith absorbed falls isMonotonic headerOf slotAt withSlot same slotOf crcUnder crc32Of feed eat turns turn finished leBytes leNumber headerSlot holds
+unfolding fullStick heldOf startOf remainingOf placeOf sectorsIn allAre placeFrom joined openOf scanOf bestFrom readFrom headFrom decoded
+    decodedWith absorbed falls isMonotonic headerOf slotAt withSlot same slotOf crcUnder crc32Of feed eat turns turn finished leBytes
+    leNumber headerSlot holds
 opens-headed = (refl, refl)
 
 -- ---- the calls
@@ -76,7 +83,9 @@ pub record Cuts (image : List ℕ) (log : Log) (m : Made) (left : List ℕ) : Ty
 
 -- what a healthy spend answers and counts
 abbrev figures : List ℕ → Log → List ℕ
-figures image log = outcome (spendOn healthy) (world image log) .value ∷ outcome (spendOn healthy) (world image log) .flash .programmed ∷ outcome (spendOn healthy) (world image log) .flash .erased ∷ []
+figures image log =
+    outcome (spendOn healthy) (world image log) .value ∷ outcome (spendOn healthy) (world image log) .flash .programmed
+    ∷ outcome (spendOn healthy) (world image log) .flash .erased ∷ []
 
 pub record Called : Type 0 where
   pub formats : outcome (formatting healthy) (opened blankStick) .flash .image ≡ newStick
@@ -95,7 +104,10 @@ pub record Called : Type 0 where
   pub after : outcome (spendOn healthy) (world unluckyStick (logWith unlucky 2 unspent)) .log ≡ logWith unlucky 3 spent
 
 pub called : Called
-unfolding blankStick newStick fullStick unluckyStick refusals numbers Lasts formatOf spendOf advanceOf advanceFrom performed heldOf roomFor holds placeOf startOf spendFrom remainingOf failedOf appendOf triesFrom entered entryAnswer sectorsIn logFits allZeros keysFit allAre allKnown seeded placeFrom joined openOf scanOf bestFrom headerOf slotAt same commitFrom writeSector erase sectorAt withSector writeRecords program withSlot landed slotOf crcUnder crc32Of feed eat turns turn finished leBytes leNumber headerSlot
+unfolding blankStick newStick fullStick unluckyStick refusals numbers Lasts formatOf spendOf advanceOf advanceFrom performed heldOf roomFor
+    holds placeOf startOf spendFrom remainingOf failedOf appendOf triesFrom entered entryAnswer sectorsIn logFits allZeros keysFit allAre
+    allKnown seeded placeFrom joined openOf scanOf bestFrom headerOf slotAt same commitFrom writeSector erase sectorAt withSector
+    writeRecords program withSlot landed slotOf crcUnder crc32Of feed eat turns turn finished leBytes leNumber headerSlot
 called = record {
   formats = refl;
   holds = (refl, refl);
@@ -130,10 +142,15 @@ pulled image left log m n opening cuts found = record {
   found = ap (λ (l : Log). tries (outcome m (world image l) .flash .image)) opening ∙ ap tries (cuts .leaves) ∙ found;
 }
 
-spends : (image : List ℕ) (log : Log) (programmed erased : ℕ) → openOf image .log ≡ log → figures image log ≡ 3 ∷ programmed ∷ erased ∷ [] → Spends image programmed erased
+spends : (image : List ℕ) (log : Log) (programmed erased : ℕ) → openOf image .log ≡ log → figures image log ≡ 3 ∷ programmed ∷ erased ∷ []
+    → Spends image programmed erased
 spends image log programmed erased opening counted =
     let found : figures image (openOf image .log) ≡ 3 ∷ programmed ∷ erased ∷ [] = ap (figures image) opening ∙ counted in
-    record { value = ap (λ (l : List ℕ). getD l 0 0) found; programmed-is = ap (λ (l : List ℕ). getD l 1 0) found; erased-is = ap (λ (l : List ℕ). getD l 2 0) found }
+    record {
+      value = ap (λ (l : List ℕ). getD l 0 0) found;
+      programmed-is = ap (λ (l : List ℕ). getD l 1 0) found;
+      erased-is = ap (λ (l : List ℕ). getD l 2 0) found;
+    }
 
 pub computed : Computed
 computed = record {
@@ -151,5 +168,8 @@ computed = record {
   taken = ap (λ (l : Log). triesIn pin 3 (outcome (spendOn (pulledAfter 4128)) (world fullStick l) .log)) (opens .full) ∙ called .taken;
   by-chance = pulled unluckyStick _ _ _ 0 (opens .chance) (called .by-chance) (ap (triesIn pin 3) (opens-torn .chance) ∙ remaining .none unlucky 3);
   before = ap (triesIn pin 3) (opens .chance) ∙ remaining .all unlucky 2;
-  after = ap (λ (l : Log). triesIn pin 3 (outcome (spendOn healthy) (world unluckyStick l) .log)) (opens .chance) ∙ ap (triesIn pin 3) (called .after) ∙ remaining .one-fewer unlucky 3;
+  after =
+      ap (λ (l : Log). triesIn pin 3 (outcome (spendOn healthy) (world unluckyStick l) .log)) (opens .chance)
+      ∙ ap (triesIn pin 3) (called .after)
+      ∙ remaining .one-fewer unlucky 3;
 }

@@ -56,7 +56,8 @@ stands = refl
 pub out-of-luck : NoChance (spendOn (pulledAfter 8) .call) unluckyStick (opened unluckyStick .log) (pulledAfter 8) → ⊥
 unfolding heldOf holds placeOf startOf leNumber leBytes slotOf matched
 out-of-luck lucky =
-    subst (λ (l : Log). NoChance (spendOn (pulledAfter 8) .call) unluckyStick l (pulledAfter 8)) (opens .chance) lucky 2 (omega arith) (omega arith) matched
+    subst (λ (l : Log). NoChance (spendOn (pulledAfter 8) .call) unluckyStick l (pulledAfter 8)) (opens .chance) lucky 2 (omega arith)
+    (omega arith) matched
     (ap (λ (left : List ℕ). slotAt left 0 2) (called .by-chance .leaves) ∙ stands)
 
 -- ---- and the table that is found is neither the one from before nor the one after: each leaves other tries
@@ -72,14 +73,18 @@ found-is =
     ∙ ap (λ (left : List ℕ). openOf left .log) (called .by-chance .leaves) ∙ opens-torn .chance
 
 -- logs of one record whose tries differ show other tables
-apart : (a b : Log) (x y : ℕ) (r q : Raw) → a ≡ logWith unlucky x r → b ≡ logWith unlucky y q → eqb (triesIn pin 3 (logWith unlucky x r)) (triesIn pin 3 (logWith unlucky y q)) ≡ false → tableOf a ≡ tableOf b → ⊥
+apart : (a b : Log) (x y : ℕ) (r q : Raw) → a ≡ logWith unlucky x r → b ≡ logWith unlucky y q
+    → eqb (triesIn pin 3 (logWith unlucky x r)) (triesIn pin 3 (logWith unlucky y q)) ≡ false → tableOf a ≡ tableOf b → ⊥
 apart a b x y r q e k differ same =
     false≢true (sym differ ∙ eq-eqb _ _ (ap triesOf (sym (ap tableOf e) ∙ same ∙ ap tableOf k)))
 
 pub not-before : tableOf found ≡ tableOf (opened unluckyStick .log) → ⊥
-not-before = apart found (opened unluckyStick .log) 3 2 (rawOf (cutAt 8 whole)) unspent found-is (opens .chance) (ap₂ eqb (remaining .none unlucky 3) (remaining .all unlucky 2))
+not-before =
+    apart found (opened unluckyStick .log) 3 2 (rawOf (cutAt 8 whole)) unspent found-is (opens .chance)
+    (ap₂ eqb (remaining .none unlucky 3) (remaining .all unlucky 2))
 
 pub not-after : tableOf found ≡ tableAfter (spendOn healthy .call) unluckyStick (opened unluckyStick .log) → ⊥
 not-after =
     apart found (outcome (spendOn healthy) (opened unluckyStick) .log) 3 3 (rawOf (cutAt 8 whole)) spent found-is
-    (ap (λ (l : Log). outcome (spendOn healthy) (record { image = unluckyStick; log = l }) .log) (opens .chance) ∙ called .after) (ap₂ eqb (remaining .none unlucky 3) (remaining .one-fewer unlucky 3))
+    (ap (λ (l : Log). outcome (spendOn healthy) (record { image = unluckyStick; log = l }) .log) (opens .chance) ∙ called .after)
+    (ap₂ eqb (remaining .none unlucky 3) (remaining .one-fewer unlucky 3))

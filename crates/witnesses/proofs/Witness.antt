@@ -79,7 +79,9 @@ clash (suc (suc (suc (suc (suc (suc (suc (suc (suc (suc (suc zero))))))))))) low
 clash (suc (suc (suc (suc (suc (suc (suc (suc (suc (suc (suc (suc k)))))))))))) low high = absurd (omega arith)
 
 unmatched : ChanceMatch 1 (slotOf 1 spent) → ⊥
-unmatched m = false≢true (sym (clash (m .k) (m .low) (m .high)) ∙ eq-eqb (crcUnder 1 (take 12 (cutAt (m .k) (slotOf 1 spent)))) 0xFFFF_FFFF (m .matches))
+unmatched m =
+    false≢true
+    (sym (clash (m .k) (m .low) (m .high)) ∙ eq-eqb (crcUnder 1 (take 12 (cutAt (m .k) (slotOf 1 spent)))) 0xFFFF_FFFF (m .matches))
 
 new-lucky : (plan : Plan) → Lucky (opened newStick) (spendOn plan)
 unfolding heldOf holds placeOf startOf leNumber leBytes
@@ -87,12 +89,15 @@ new-lucky plan _ = subst (λ (l : Log). NoChance (spendOn plan .call) newStick l
 
 -- a full sector has no slot to append to
 full-lucky : (plan : Plan) → Lucky (opened fullStick) (spendOn plan)
-full-lucky plan _ = subst (λ (l : Log). NoChance (spendOn plan .call) fullStick l plan) (sym (opens .full)) (λ h low high m e. omega (arith, low, high))
+full-lucky plan _ =
+    subst (λ (l : Log). NoChance (spendOn plan .call) fullStick l plan) (sym (opens .full)) (λ h low high m e. omega (arith, low, high))
 
 -- ---- so the statements speak of these sticks, wherever a spend is cut: each wakes with three tries or two
 module _ (plan : Plan) where
   abbrev KeepsOrTakes : List ℕ → Type 0
-  KeepsOrTakes stick = (triesIn pin 3 (woken (opened stick) (spendOn plan)) ≡ triesIn pin 3 (opened stick .log)) ⊎ (triesIn pin 3 (woken (opened stick) (spendOn plan)) + 1 ≡ triesIn pin 3 (opened stick .log))
+  KeepsOrTakes stick =
+      (triesIn pin 3 (woken (opened stick) (spendOn plan)) ≡ triesIn pin 3 (opened stick .log))
+      ⊎ (triesIn pin 3 (woken (opened stick) (spendOn plan)) + 1 ≡ triesIn pin 3 (opened stick .log))
 
   pub new-wakes : KeepsOrTakes newStick
   unfolding played
@@ -100,4 +105,6 @@ module _ (plan : Plan) where
 
   pub full-wakes : KeepsOrTakes fullStick
   unfolding played
-  full-wakes = pulled-stick fullStick (bytes .full) [] none-typed (none-made fullStick) pin 3 (omega arith) (omega arith) plan .either (full-lucky plan)
+  full-wakes =
+      pulled-stick fullStick (bytes .full) [] none-typed (none-made fullStick) pin 3 (omega arith) (omega arith) plan .either
+      (full-lucky plan)

@@ -31,7 +31,9 @@ allRight [] = true
 allRight (r ∷ rs) = same (r .given) (r .said) && allRight rs
 
 pub table-right : allRight table ≡ true
-unfolding allRight table same leBytes leNumber turn turns eat feed finished crc32Of remainingOf anchorRecord putValueOf entered entryAnswer sectorsIn logFits allZeros keysFit allAre holds placeOf heldOf roomFor valueDecision isMonotonic performed joined appendOf triesFrom program landed slotAt withSlot slotOf crcUnder
+unfolding allRight table same leBytes leNumber turn turns eat feed finished crc32Of remainingOf anchorRecord putValueOf entered entryAnswer
+    sectorsIn logFits allZeros keysFit allAre holds placeOf heldOf roomFor valueDecision isMonotonic performed joined appendOf triesFrom
+    program landed slotAt withSlot slotOf crcUnder
 table-right = refl
 
 -- what stands at a place past the end

@@ -59,7 +59,8 @@ table =
     -- 3. "Lamport 258: 4C 01 00 00 02 01 00 00 00 00 00 00."
     ∷ row (bytesOf (valueRecord lamport 258)) (0x4C ∷ 0x01 ∷ 0x00 ∷ 0x00 ∷ 0x02 ∷ 0x01 ∷ 0x00 ∷ 0x00 ∷ 0x00 ∷ 0x00 ∷ 0x00 ∷ 0x00 ∷ [])
     -- 4. "Anchor 7, 2^48 − 1, 9: 41 00 07 00 FF FF FF FF FF FF 09 00;"
-    ∷ row (bytesOf (anchorRecord (anchor 7 (2 ^ 48 - 1) 9) .raw)) (0x41 ∷ 0x00 ∷ 0x07 ∷ 0x00 ∷ 0xFF ∷ 0xFF ∷ 0xFF ∷ 0xFF ∷ 0xFF ∷ 0xFF ∷ 0x09 ∷ 0x00 ∷ [])
+    ∷ row (bytesOf (anchorRecord (anchor 7 (2 ^ 48 - 1) 9) .raw))
+    (0x41 ∷ 0x00 ∷ 0x07 ∷ 0x00 ∷ 0xFF ∷ 0xFF ∷ 0xFF ∷ 0xFF ∷ 0xFF ∷ 0xFF ∷ 0x09 ∷ 0x00 ∷ [])
     -- "head_seq 2^48 gives 6."
     ∷ row (numberOf (anchorRecord (anchor 7 (2 ^ 48) 9) .answer) ∷ []) (6 ∷ [])
     -- 5. "Total 1, at-reset 2: remaining 0."

@@ -31,7 +31,9 @@ abbrev Rs : List RattleType
 Rs = Array Seed.the-row 8 ∷ usize ∷ []
 
 abbrev job : Lending done Rs
-job = log-call Rs (array-single Seed.the-row (struct-single Seed.the-type Seed′.the-laws Seed′.the-copy) 8, (uint-single w64, tt)) callee.name (λ (ys : List ℕ) (log : Log) (h : Plan) (t : Denots Rs). formatOf ys log h (t .0) (t .1 .0))
+job =
+    log-call Rs (array-single Seed.the-row (struct-single Seed.the-type Seed′.the-laws Seed′.the-copy) 8, (uint-single w64, tt)) callee.name
+    (λ (ys : List ℕ) (log : Log) (h : Plan) (t : Denots Rs). formatOf ys log h (t .0) (t .1 .0))
 
 pub format-spec : {M : Type 1} → stated.statement M
 unfolding code.routine tablesOf

@@ -30,7 +30,9 @@ abbrev Rs : List RattleType
 Rs = u8 ∷ CounterState.the-row ∷ []
 
 abbrev job : Lending done Rs
-job = log-call Rs (uint-single w8, (struct-single CounterState.the-type CounterState′.the-laws CounterState′.the-copy, tt)) callee.name (λ (ys : List ℕ) (log : Log) (h : Plan) (t : Denots Rs). putOf ys log h (t .0) (t .1 .0))
+job =
+    log-call Rs (uint-single w8, (struct-single CounterState.the-type CounterState′.the-laws CounterState′.the-copy, tt)) callee.name
+    (λ (ys : List ℕ) (log : Log) (h : Plan) (t : Denots Rs). putOf ys log h (t .0) (t .1 .0))
 
 pub put-spec : {M : Type 1} → stated.statement M
 unfolding code.routine tablesOf

@@ -28,7 +28,9 @@ abbrev Rs : List RattleType
 Rs = Anchor.the-row ∷ []
 
 abbrev job : Lending done Rs
-job = log-call Rs (struct-single Anchor.the-type Anchor′.the-laws Anchor′.the-copy, tt) callee.name (λ (ys : List ℕ) (log : Log) (h : Plan) (t : Denots Rs). putAnchorOf ys log h (t .0))
+job =
+    log-call Rs (struct-single Anchor.the-type Anchor′.the-laws Anchor′.the-copy, tt) callee.name
+    (λ (ys : List ℕ) (log : Log) (h : Plan) (t : Denots Rs). putAnchorOf ys log h (t .0))
 
 pub put-anchor-spec : {M : Type 1} → stated.statement M
 unfolding code.routine tablesOf

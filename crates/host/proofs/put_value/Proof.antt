@@ -28,7 +28,9 @@ abbrev Rs : List RattleType
 Rs = u8 ∷ u64 ∷ []
 
 abbrev job : Lending done Rs
-job = log-call Rs (uint-single w8, (uint-single w64, tt)) callee.name (λ (ys : List ℕ) (log : Log) (h : Plan) (t : Denots Rs). putValueOf ys log h (t .0) (t .1 .0))
+job =
+    log-call Rs (uint-single w8, (uint-single w64, tt)) callee.name
+    (λ (ys : List ℕ) (log : Log) (h : Plan) (t : Denots Rs). putValueOf ys log h (t .0) (t .1 .0))
 
 pub put-value-spec : {M : Type 1} → stated.statement M
 unfolding code.routine tablesOf

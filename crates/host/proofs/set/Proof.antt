@@ -28,7 +28,9 @@ abbrev Rs : List RattleType
 Rs = u8 ∷ u8 ∷ []
 
 abbrev job : Lending done Rs
-job = log-call Rs (uint-single w8, (uint-single w8, tt)) callee.name (λ (ys : List ℕ) (log : Log) (h : Plan) (t : Denots Rs). setOf ys log h (t .0) (t .1 .0))
+job =
+    log-call Rs (uint-single w8, (uint-single w8, tt)) callee.name
+    (λ (ys : List ℕ) (log : Log) (h : Plan) (t : Denots Rs). setOf ys log h (t .0) (t .1 .0))
 
 pub set-spec : {M : Type 1} → stated.statement M
 unfolding code.routine tablesOf

@@ -28,7 +28,8 @@ abbrev listed : tie.Start → List ℕ
 listed s = listingIn (length (s .args .out .now)) (s .args .image .now)
 
 -- a buffer that holds the text of this case holds the listing
-holds : (s : tie.Start) (text after : List ℕ) (r : ℕ) → listed s ≡ text → Puts (s .args .out .now) 0 text after r → Puts (s .args .out .now) 0 (listed s) after r
+holds : (s : tie.Start) (text after : List ℕ) (r : ℕ) → listed s ≡ text → Puts (s .args .out .now) 0 text after r
+    → Puts (s .args .out .now) 0 (listed s) after r
 holds s text after r e p = subst (λ (t : List ℕ). Puts (s .args .out .now) 0 t after r) (sym e) p
 
 -- the image is bytes, so what it opens to is small
@@ -39,11 +40,14 @@ fits c =
     subst (λ (o : Opened). Fits (o .log)) (sym (c .«open» .ensures)) (opened-fits image bytes)
 
 -- an image that opened: its listing by the state
-by-state : (c : tie.After-log) (state : State) → let o = c .before .before .before in o .«open» .result .log .state ≡ state → listed (start o) ≡ stateListing (o .«open» .result .log) state
+by-state : (c : tie.After-log) (state : State) →
+    let o = c .before .before .before in
+    o .«open» .result .log .state ≡ state → listed (start o) ≡ stateListing (o .«open» .result .log) state
 by-state c state e =
     let d = c .before .before in
     let o = d .before in
-    in-state (length (start o .args .out .now)) (start o .args .image .now) (o .«open» .result) (o .before .if1 .left) (o .«open» .ensures) (sym (d .is-done .ensures) ∙ not-false (d .is-done .result) (c .before .if2 .left)) state e
+    in-state (length (start o .args .out .now)) (start o .args .image .now) (o .«open» .result) (o .before .if1 .left) (o .«open» .ensures)
+    (sym (d .is-done .ensures) ∙ not-false (d .is-done .result) (c .before .if2 .left)) state e
 
 abbrev opened : tie.After-state → tie.After-open
 opened c = c .before .before .before .before .before
@@ -59,7 +63,8 @@ room c =
 
 -- the line of the state stands
 stands : (c : tie.After-put-active) → let s = c .before .before .before in let o = opened s in
-    Begun (start o .args .out .now) 0 (stateListing (o .«open» .result .log) (active s)) (recordLines (recordsOf (o .«open» .result .log))) (c .put-active .last .0) (c .put-active .result)
+    Begun (start o .args .out .now) 0 (stateListing (o .«open» .result .log) (active s)) (recordLines (recordsOf (o .«open» .result .log)))
+    (c .put-active .last .0) (c .put-active .result)
 stands c = let s = c .before .before .before in next (room s) (begun (room s)) (c .put-active .ensures)
 
 returns : tie.Need-returns
@@ -119,7 +124,12 @@ put-active-requires : tie.Need-put-active-requires
 put-active-requires c κs =
     let s = c .before .before in
     let log = opened s .«open» .result .log in
-    omega (arith, room s, length-append (activeLine (s .state .given .0 .0) (s .state .given .0 .1 .0) (s .state .given .0 .1 .1 .0) (log .count)) (recordLines (recordsOf log)))
+    omega (
+      arith,
+      room s,
+      length-append (activeLine (s .state .given .0 .0) (s .state .given .0 .1 .0) (s .state .given .0 .1 .1 .0) (log .count))
+          (recordLines (recordsOf log)),
+    )
 
 put-records-requires : tie.Need-put-records-requires
 put-records-requires c κs =
@@ -135,7 +145,8 @@ returns-3 c =
     let p = c .before .before in
     let e = p .before .before .before in
     let l = e .before .before in
-    holds (start (l .before .before .before)) _ (p .put-bytes2 .last .0) (p .put-bytes2 .result) (by-state l Unformatted (e .enum-told .given .1)) (p .put-bytes2 .ensures)
+    holds (start (l .before .before .before)) _ (p .put-bytes2 .last .0) (p .put-bytes2 .result)
+    (by-state l Unformatted (e .enum-told .given .1)) (p .put-bytes2 .ensures)
 
 same-length-3 : tie.Need-same-length-3
 same-length-3 c = search needs
@@ -145,7 +156,8 @@ returns-4 c =
     let p = c .before .before in
     let e = p .before .before .before in
     let l = e .before .before in
-    holds (start (l .before .before .before)) _ (p .put-bytes3 .last .0) (p .put-bytes3 .result) (by-state l Failed (e .enum-told2 .given .1)) (p .put-bytes3 .ensures)
+    holds (start (l .before .before .before)) _ (p .put-bytes3 .last .0) (p .put-bytes3 .result)
+    (by-state l Failed (e .enum-told2 .given .1)) (p .put-bytes3 .ensures)
 
 same-length-4 : tie.Need-same-length-4
 same-length-4 c = search needs
@@ -155,7 +167,8 @@ returns-5 c =
     let p = c .before .before in
     let a = p .before .before .before .before .before in
     let s = a .before .before .before in
-    holds (start (opened s)) _ (p .put-records .last .0) (p .put-records .result) (by-state (s .before .before) (active s) (s .state .given .1)) (last (room s) (stands a) (p .put-records .ensures))
+    holds (start (opened s)) _ (p .put-records .last .0) (p .put-records .result)
+    (by-state (s .before .before) (active s) (s .state .given .1)) (last (room s) (stands a) (p .put-records .ensures))
 
 pub list-spec : {M : Type 1} → statement M
 list-spec =

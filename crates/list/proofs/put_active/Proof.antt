@@ -22,18 +22,26 @@ start c = c .before .before .before .before
 abbrev rest : tie.Start → List ℕ → List ℕ → ℕ → Type 0
 rest s left out at = Begun (s .args .out .now) 0 (whole s) left out at
 
-word : (c : tie.After-put-bytes) → let s = start c in rest s (line (s .args .sector) (s .args .seq ∷ s .args .head ∷ s .args .count ∷ [])) (c .put-bytes .last .0) (c .put-bytes .result)
+word : (c : tie.After-put-bytes) →
+    let s = start c in
+    rest s (line (s .args .sector) (s .args .seq ∷ s .args .head ∷ s .args .count ∷ [])) (c .put-bytes .last .0) (c .put-bytes .result)
 word c = next (room (start c)) (begun (room (start c))) (c .put-bytes .ensures)
 
-sector : (c : tie.After-put-number) → let s = start (c .before .before .before .before) in rest s (line (s .args .seq) (s .args .head ∷ s .args .count ∷ [])) (c .put-number .last .0) (c .put-number .result)
+sector : (c : tie.After-put-number) →
+    let s = start (c .before .before .before .before) in
+    rest s (line (s .args .seq) (s .args .head ∷ s .args .count ∷ [])) (c .put-number .last .0) (c .put-number .result)
 unfolding line
 sector c = let w = c .before .before .before .before in next (room (start w)) (word w) (c .put-number .ensures)
 
-seq : (c : tie.After-put-number2) → let s = start (c .before .before .before .before .before .before .before .before) in rest s (line (s .args .head) (s .args .count ∷ [])) (c .put-number2 .last .0) (c .put-number2 .result)
+seq : (c : tie.After-put-number2) →
+    let s = start (c .before .before .before .before .before .before .before .before) in
+    rest s (line (s .args .head) (s .args .count ∷ [])) (c .put-number2 .last .0) (c .put-number2 .result)
 unfolding line
 seq c = let n = c .before .before .before .before in next (room (start (n .before .before .before .before))) (sector n) (c .put-number2 .ensures)
 
-head : (c : tie.After-put-number3) → let s = start (c .before .before .before .before .before .before .before .before .before .before .before .before) in rest s (line (s .args .count) []) (c .put-number3 .last .0) (c .put-number3 .result)
+head : (c : tie.After-put-number3) →
+    let s = start (c .before .before .before .before .before .before .before .before .before .before .before .before) in
+    rest s (line (s .args .count) []) (c .put-number3 .last .0) (c .put-number3 .result)
 unfolding line
 head c =
     let n = c .before .before .before .before in
@@ -80,7 +88,8 @@ unfolding line
 returns c =
     let n = c .before .before in
     let h = n .before .before .before .before in
-    last (room (start (h .before .before .before .before .before .before .before .before .before .before .before .before))) (head h) (n .put-number4 .ensures)
+    last (room (start (h .before .before .before .before .before .before .before .before .before .before .before .before))) (head h)
+    (n .put-number4 .ensures)
 
 pub put-active-spec : {M : Type 1} → statement M
 put-active-spec =

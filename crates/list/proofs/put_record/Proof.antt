@@ -22,12 +22,14 @@ body-long s = ten (s .args .r) (s .good .1 .1 .0)
 
 -- the tag stands, and then the id
 tag-stands : (c : tie.After-put-small Inv-loop μ-loop) → let s = c .before .before .before .before in
-    Begun (s .args .out .now) (s .args .at) (recordLine (s .args .r)) (line (s .args .r .id) (s .args .r .body)) (c .put-small .last .0) (c .put-small .result)
+    Begun (s .args .out .now) (s .args .at) (recordLine (s .args .r)) (line (s .args .r .id) (s .args .r .body)) (c .put-small .last .0)
+    (c .put-small .result)
 unfolding line
 tag-stands c = let s = c .before .before .before .before in next (s .pre) (begun (s .pre)) (c .put-small .ensures)
 
 id-next : (c : tie.After-put-small Inv-loop μ-loop) → let s = c .before .before .before .before in
-    Begun (s .args .out .now) (s .args .at) (recordLine (s .args .r)) (number (s .args .r .id) 32 ++ lineFrom (s .args .r .body) 0) (c .put-small .last .0) (c .put-small .result)
+    Begun (s .args .out .now) (s .args .at) (recordLine (s .args .r)) (number (s .args .r .id) 32 ++ lineFrom (s .args .r .body) 0)
+    (c .put-small .last .0) (c .put-small .result)
 id-next c =
     let s = c .before .before .before .before in
     subst (λ (l : List ℕ). Begun (s .args .out .now) (s .args .at) (recordLine (s .args .r)) l (c .put-small .last .0) (c .put-small .result))
@@ -45,11 +47,14 @@ abbrev entered : tie.At-loop Inv-loop μ-loop → tie.After-put-small2 Inv-loop 
 entered l = l .before .before .before
 
 -- the body has room
-room : (c : tie.After-put-small2 Inv-loop μ-loop) → c .put-small2 .result + length (lineFrom (start c .args .r .body) 0) ≤ length (c .put-small2 .last .0)
+room : (c : tie.After-put-small2 Inv-loop μ-loop)
+    → c .put-small2 .result + length (lineFrom (start c .args .r .body) 0) ≤ length (c .put-small2 .last .0)
 room c = room-left (start c .pre) (id-stands c)
 
 abbrev Left : tie.At-loop Inv-loop μ-loop → List ℕ → Type 0
-Left l rest = let e = entered l in Begun (e .put-small2 .last .0) (e .put-small2 .result) (lineFrom (start e .args .r .body) 0) rest (l .loop .out) (l .loop .to)
+Left l rest =
+    let e = entered l in
+    Begun (e .put-small2 .last .0) (e .put-small2 .result) (lineFrom (start e .args .r .body) 0) rest (l .loop .out) (l .loop .to)
 
 -- what is left, before a turn and at the end
 more : (c : tie.In-loop Inv-loop μ-loop) → let l = c .before in let body = start (entered l) .args .r .body in

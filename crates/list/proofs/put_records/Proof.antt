@@ -55,7 +55,8 @@ put-record-requires : tie.Need-put-record-requires Inv-loop μ-loop
 put-record-requires c κs =
     let l = c .before .before .before in
     let a = start l .args in
-    piece-fits (start l .pre .1) (recordLine (getD (a .t3) (l .loop .i) nowhere)) (recordLines (drop (l .loop .i + 1) (take (a .count) (a .t3)))) (more (c .before .before))
+    piece-fits (start l .pre .1) (recordLine (getD (a .t3) (l .loop .i) nowhere))
+    (recordLines (drop (l .loop .i + 1) (take (a .count) (a .t3)))) (more (c .before .before))
 
 add-i : tie.Need-add-i Inv-loop μ-loop
 add-i c = omega (arith, start (c .before .before .before .before .before .before) .pre .0)

@@ -37,7 +37,9 @@ refused-entry-requires c κs = search needs
 returns : tie.Need-returns
 returns c =
     let a = c .before .before .args in
-    c .refused-entry .ensures ∙ entry-by (a .sectors) (a .log) (a .known) (a .tag) (a .id) BadImage (answer-no-image (a .sectors) (a .log) (a .known) (c .before .if1 .taken))
+    c .refused-entry .ensures
+    ∙ entry-by (a .sectors) (a .log) (a .known) (a .tag) (a .id) BadImage
+    (answer-no-image (a .sectors) (a .log) (a .known) (c .before .if1 .taken))
 
 look-requires : tie.Need-look-requires
 look-requires c κs = search needs
@@ -50,7 +52,9 @@ returns-2 c =
     let l = c .before .before .before in
     let a = start-of l .args in
     c .refused-entry2 .ensures
-    ∙ entry-by (a .sectors) (a .log) (a .known) (a .tag) (a .id) BadLog (answer-bad-log (a .sectors) (a .log) (a .known) (l .before .if1 .left) (fits-as l ∙ not-true (l .look .result .fits) (c .before .if2 .taken)))
+    ∙ entry-by (a .sectors) (a .log) (a .known) (a .tag) (a .id) BadLog
+    (answer-bad-log (a .sectors) (a .log) (a .known) (l .before .if1 .left)
+    (fits-as l ∙ not-true (l .look .result .fits) (c .before .if2 .taken)))
 
 refused-entry-requires-3 : tie.Need-refused-entry-requires-3
 refused-entry-requires-3 c κs = search needs
@@ -61,7 +65,8 @@ returns-3 c =
     let a = start-of l .args in
     c .refused-entry3 .ensures
     ∙ entry-by (a .sectors) (a .log) (a .known) (a .tag) (a .id) BadId
-    (answer-bad-id (a .sectors) (a .log) (a .known) (l .before .if1 .left) (fits-as l ∙ not-false (l .look .result .fits) (c .before .before .if2 .left)) (not-true (a .known) (c .before .if3 .taken)))
+    (answer-bad-id (a .sectors) (a .log) (a .known) (l .before .if1 .left)
+    (fits-as l ∙ not-false (l .look .result .fits) (c .before .before .if2 .left)) (not-true (a .known) (c .before .if3 .taken)))
 
 returns-4 : tie.Need-returns-4
 returns-4 c =
@@ -74,12 +79,17 @@ returns-4 c =
     let count = records-length (a .log) whole (a .sectors) fits in
     let few : length t ≤ limit = omega (arith, count, fits-clauses (a .sectors) (a .log) fits .few) in
     let found = l .look .ensures ∙ looked-found (a .sectors) (a .tag) (a .id) (a .log) fits in
-    let shown : (x : Looked) → Entry = λ (x : Looked). record { answer = Done; at = x .at; room = ltb (x .at) limit; held = record { some = ltb (x .at) (a .log .count); raw = x .held } } in
+    let shown : (x : Looked) → Entry =
+    λ (x : Looked).
+    record
+    { answer = Done; at = x .at; room = ltb (x .at) limit; held = record { some = ltb (x .at) (a .log .count); raw = x .held } } in
     ap shown found
     ∙ ap₂ (λ (room : Bool) (held : OptRaw). record { answer = Done; at = placeOf (a .tag) (a .id) t; room = room; held = held })
     (room-at (a .tag) (a .id) t few)
-    (ap (λ (n : ℕ). record { some = ltb (placeOf (a .tag) (a .id) t) n; raw = getD t (placeOf (a .tag) (a .id) t) noRaw }) (sym count) ∙ held-at (a .tag) (a .id) t)
-    ∙ entry-by (a .sectors) (a .log) (a .known) (a .tag) (a .id) Done (answer-done (a .sectors) (a .log) (a .known) (l .before .if1 .left) fits (not-false (a .known) (n .if3 .left)))
+    (ap (λ (n : ℕ). record { some = ltb (placeOf (a .tag) (a .id) t) n; raw = getD t (placeOf (a .tag) (a .id) t) noRaw }) (sym count)
+    ∙ held-at (a .tag) (a .id) t)
+    ∙ entry-by (a .sectors) (a .log) (a .known) (a .tag) (a .id) Done
+    (answer-done (a .sectors) (a .log) (a .known) (l .before .if1 .left) fits (not-false (a .known) (n .if3 .left)))
 
 pub enter-spec : {M : Type 1} → statement M
 enter-spec =

@@ -39,7 +39,8 @@ returns c =
     let a = c .before .before .before .before .before .before .args in
     let tags = take (a .count) (a .tags .now) in
     let ids = take (a .count) (a .ids .now) in
-    sym (found-here (a .tag) (a .id) tags ids (loop .i) (omega (arith, tags-long (c .before .before .before .before .before .before))) (omega (arith, ids-long (c .before .before .before .before .before .before)))
+    sym
+    (found-here (a .tag) (a .id) tags ids (loop .i) (omega (arith, tags-long (c .before .before .before .before .before .before))) (omega (arith, ids-long (c .before .before .before .before .before .before)))
     (getD-take (a .count) (a .tags .now) (loop .i) 0 (omega arith) ∙ c .before .before .if1 .taken)
     (getD-take (a .count) (a .ids .now) (loop .i) 0 (omega arith) ∙ c .if2 .taken))
     ∙ loop .inv .1
@@ -61,8 +62,14 @@ loop-again c =
     let id-here = getD-take (a .count) (a .ids .now) (loop .i) 0 (omega arith) in (
       omega arith,
       ⊎-elim
-          (λ w. sym (found-past-id (a .tag) (a .id) tags ids (loop .i) (omega (arith, tags-long s0)) (omega (arith, ids-long s0)) (tag-here ∙ w .0 .taken) (λ e. w .2 .left (sym id-here ∙ e))))
-          (λ w. sym (found-past-tag (a .tag) (a .id) tags ids (loop .i) (omega (arith, tags-long s0)) (omega (arith, ids-long s0)) (λ e. w .left (sym tag-here ∙ e))))
+          (λ w.
+          sym
+          (found-past-id (a .tag) (a .id) tags ids (loop .i) (omega (arith, tags-long s0)) (omega (arith, ids-long s0))
+          (tag-here ∙ w .0 .taken) (λ e. w .2 .left (sym id-here ∙ e))))
+          (λ w.
+          sym
+          (found-past-tag (a .tag) (a .id) tags ids (loop .i) (omega (arith, tags-long s0)) (omega (arith, ids-long s0))
+          (λ e. w .left (sym tag-here ∙ e))))
           (c .if1 .came)
           ∙ loop .inv .1,
     )
@@ -71,7 +78,9 @@ returns-2 : tie.Need-returns-2 Inv-loop μ-loop
 returns-2 c =
     let loop = c .before .loop in
     let a = c .before .before .args in
-    sym (found-end (a .tag) (a .id) (take (a .count) (a .tags .now)) (take (a .count) (a .ids .now)) (loop .i) (omega (arith, tags-long (c .before .before))))
+    sym
+    (found-end (a .tag) (a .id) (take (a .count) (a .tags .now)) (take (a .count) (a .ids .now)) (loop .i)
+    (omega (arith, tags-long (c .before .before))))
     ∙ loop .inv .1
 
 pub find-spec : {M : Type 1} → statement M

@@ -19,7 +19,12 @@ returns : tie.Need-returns
 unfolding falls
 returns c =
     let a = c .before .before .before .before .args in
-    rw (sym (c .before .before .before .is-monotonic .ensures) ∙ c .before .before .if1 .taken, not-ltb, c .before .value-of .ensures, c .value-of2 .ensures)
+    rw (
+      sym (c .before .before .before .is-monotonic .ensures) ∙ c .before .before .if1 .taken,
+      not-ltb,
+      c .before .value-of .ensures,
+      c .value-of2 .ensures,
+    )
 
 returns-2 : tie.Need-returns-2
 unfolding falls

@@ -38,12 +38,17 @@ rest-requires c κs =
     let w = c .before .before .before .before .before .before .before .before .before .before in
     let m = read w in
     let kept = w .whole-lines .kept .1 .1 .1 .1 .0 in (
-      (omega (arith, kept, m .before .before .before .before .before .before .before .before .pre .1 .0 .1), (omega (arith, kept, w .whole-lines .ensures .1 .0), w .whole-lines .ensures .1 .1)),
+      (
+        omega (arith, kept, m .before .before .before .before .before .before .before .before .pre .1 .0 .1),
+        (omega (arith, kept, w .whole-lines .ensures .1 .0), w .whole-lines .ensures .1 .1),
+      ),
       (omega (arith, w .whole-lines .ensures .0), omega (arith, m .more .ensures .1, m .more .kept .0)),
     )
 
 same-length-2 : tie.Need-same-length-2
-same-length-2 c = let r = c .before .before .before .before in r .rest .kept .0 ∙ read (r .before .before .before .before .before .before .before .before .before .before .before) .more .kept .0
+same-length-2 c =
+    let r = c .before .before .before .before in
+    r .rest .kept .0 ∙ read (r .before .before .before .before .before .before .before .before .before .before .before) .more .kept .0
 
 same-length-3 : tie.Need-same-length-3
 same-length-3 c = search needs

@@ -8,7 +8,9 @@ use Rattle.replay.proofs.replay.Statement.{statement}
 use Rattle.replay.proofs.replay.Tie as tie
 
 abbrev Inv-loop : tie.InvT-loop
-Inv-loop input₀ image₀ saved₀ before₀ out₀ r₀ rounds₀ input image saved before out r rounds = (((length image ≡ length image₀) × (length saved ≡ length saved₀)) × ((length before ≡ length before₀) × (length out ≡ length out₀))) × ((length input ≡ length input₀) × ((r .have ≤ length input₀) × Sound (r .session) (length out₀)))
+Inv-loop input₀ image₀ saved₀ before₀ out₀ r₀ rounds₀ input image saved before out r rounds =
+    (((length image ≡ length image₀) × (length saved ≡ length saved₀)) × ((length before ≡ length before₀) × (length out ≡ length out₀)))
+    × ((length input ≡ length input₀) × ((r .have ≤ length input₀) × Sound (r .session) (length out₀)))
 
 abbrev μ-loop : tie.MeasureT-loop
 μ-loop input₀ image₀ saved₀ before₀ out₀ r₀ rounds₀ input image saved before out r rounds = rounds

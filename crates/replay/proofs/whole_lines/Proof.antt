@@ -11,7 +11,9 @@ use Rattle.replay.proofs.whole_lines.Statement.{statement}
 use Rattle.replay.proofs.whole_lines.Tie as tie
 
 abbrev Inv-loop : tie.InvT-loop
-Inv-loop text image₀ saved₀ before₀ out₀ s₀ from₀ image saved before out s from = (((length image ≡ length image₀) × (length saved ≡ length saved₀)) × ((length before ≡ length before₀) × (length out ≡ length out₀))) × ((from ≤ length text) × Sound s (length out₀))
+Inv-loop text image₀ saved₀ before₀ out₀ s₀ from₀ image saved before out s from =
+    (((length image ≡ length image₀) × (length saved ≡ length saved₀)) × ((length before ≡ length before₀) × (length out ≡ length out₀)))
+    × ((from ≤ length text) × Sound s (length out₀))
 
 abbrev μ-loop : tie.MeasureT-loop
 μ-loop text image₀ saved₀ before₀ out₀ s₀ from₀ image saved before out s from = length text - from
@@ -74,7 +76,9 @@ turn-requires : tie.Need-turn-requires Inv-loop μ-loop
 turn-requires c κs = search needs
 
 add-from : tie.Need-add-from Inv-loop μ-loop
-add-from c = next-fits (c .before .before .before .before .before .before .before .before .before .before .before .before .before .before .before .before)
+add-from c =
+    next-fits
+    (c .before .before .before .before .before .before .before .before .before .before .before .before .before .before .before .before)
 
 loop-less : tie.Need-loop-less Inv-loop μ-loop
 loop-less c = search needs

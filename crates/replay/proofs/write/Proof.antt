@@ -18,7 +18,11 @@ same-length-2 : tie.Need-same-length-2
 same-length-2 c = search needs
 
 returns : tie.Need-returns
-returns c = (c .before .before .before .before .before .before .before .before .before .before .before .before .before .before .before .before .before .pre .1 .1 .1, refl)
+returns c = (
+  c .before .before .before .before .before .before .before .before .before .before .before .before .before .before .before .before
+      .before .pre .1 .1 .1,
+  refl,
+)
 
 worked-requires : tie.Need-worked-requires
 worked-requires c κs =

@@ -34,9 +34,14 @@ returns c = λ cut.
     let a = s0 .args in
     let run =
     erase-run (a .sector) (flashWith (a .image .now) (a .used) cut)
-    (c .before .before .before .before .before .before .to-erase .result) (c .before .before .before .before .erase-sector .result) (c .before .before .before .before .erase-sector .last .0) (c .before .after-erase .result)
-    (c .before .before .before .before .before .before .to-erase .ensures) (c .before .before .before .before .erase-sector .ensures .0) (c .before .before .before .before .erase-sector .ensures .1) (c .before .after-erase .ensures) in
-    record { shown = ap (λ (o : Stepped). record { answer = o .answer; used = usedOf (o .flash) }) (sym run); left = ap (λ (o : Stepped). o .flash .image) (sym run) }
+    (c .before .before .before .before .before .before .to-erase .result) (c .before .before .before .before .erase-sector .result)
+    (c .before .before .before .before .erase-sector .last .0) (c .before .after-erase .result)
+    (c .before .before .before .before .before .before .to-erase .ensures) (c .before .before .before .before .erase-sector .ensures .0)
+    (c .before .before .before .before .erase-sector .ensures .1) (c .before .after-erase .ensures) in
+    record {
+      shown = ap (λ (o : Stepped). record { answer = o .answer; used = usedOf (o .flash) }) (sym run);
+      left = ap (λ (o : Stepped). o .flash .image) (sym run);
+    }
 
 pub erase-spec : {M : Type 1} → statement M
 erase-spec =

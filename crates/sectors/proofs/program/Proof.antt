@@ -34,9 +34,14 @@ returns c = λ cut.
     let a = s0 .args in
     let run =
     program-run (a .sector) (a .slot) (a .bytes) (flashWith (a .image .now) (a .used) cut)
-    (c .before .before .before .before .before .before .to-program .result) (c .before .before .before .before .program-slot .result) (c .before .before .before .before .program-slot .last .0) (c .before .after-program .result)
-    (c .before .before .before .before .before .before .to-program .ensures) (c .before .before .before .before .program-slot .ensures .0) (c .before .before .before .before .program-slot .ensures .1) (c .before .after-program .ensures) in
-    record { shown = ap (λ (o : Stepped). record { answer = o .answer; used = usedOf (o .flash) }) (sym run); left = ap (λ (o : Stepped). o .flash .image) (sym run) }
+    (c .before .before .before .before .before .before .to-program .result) (c .before .before .before .before .program-slot .result)
+    (c .before .before .before .before .program-slot .last .0) (c .before .after-program .result)
+    (c .before .before .before .before .before .before .to-program .ensures) (c .before .before .before .before .program-slot .ensures .0)
+    (c .before .before .before .before .program-slot .ensures .1) (c .before .after-program .ensures) in
+    record {
+      shown = ap (λ (o : Stepped). record { answer = o .answer; used = usedOf (o .flash) }) (sym run);
+      left = ap (λ (o : Stepped). o .flash .image) (sym run);
+    }
 
 pub program-spec : {M : Type 1} → statement M
 program-spec =

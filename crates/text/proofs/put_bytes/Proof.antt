@@ -45,7 +45,9 @@ loop-again : tie.Need-loop-again Inv-loop μ-loop
 loop-again c =
     let l = c .before .before in
     let bytes = l .before .args .bytes .now in
-    let here = subst (λ (r : List ℕ). Begun (l .before .args .out .now) (l .before .args .at) bytes r (l .loop .out) (l .loop .to)) (drop-cons bytes (l .loop .i) 0 (omega arith)) (l .loop .inv .1) in
+    let here =
+    subst (λ (r : List ℕ). Begun (l .before .args .out .now) (l .before .args .at) bytes r (l .loop .out) (l .loop .to))
+    (drop-cons bytes (l .loop .i) 0 (omega arith)) (l .loop .inv .1) in
     (omega arith, rw (add-one (l .loop .i)) (next (l .before .pre) here (put-one (l .loop .out) (l .loop .to) _ (omega (arith, room l)))))
 
 same-length : tie.Need-same-length Inv-loop μ-loop
@@ -55,7 +57,9 @@ returns : tie.Need-returns Inv-loop μ-loop
 returns c =
     let l = c .before in
     let bytes = l .before .args .bytes .now in
-    ended (l .before .pre) (subst (λ (r : List ℕ). Begun (l .before .args .out .now) (l .before .args .at) bytes r (l .loop .out) (l .loop .to)) (drop-of-length-le bytes {i = l .loop .i} (omega arith)) (l .loop .inv .1))
+    ended (l .before .pre)
+    (subst (λ (r : List ℕ). Begun (l .before .args .out .now) (l .before .args .at) bytes r (l .loop .out) (l .loop .to))
+    (drop-of-length-le bytes {i = l .loop .i} (omega arith)) (l .loop .inv .1))
 
 pub put-bytes-spec : {M : Type 1} → statement M
 put-bytes-spec =

@@ -12,7 +12,8 @@ use Rattle.tries.proofs.load.Statement.{statement}
 use Rattle.tries.proofs.load.Tie as tie
 
 -- what is loaded, by what is left
-by : (r : tie.After-remaining) (x : TriesLeft) → r .remaining .result ≡ x → let a = r .before .args in loadBy (a .exists) (a .fresh) x ≡ loadOf (a .log) (a .credential) (a .exists) (a .fresh)
+by : (r : tie.After-remaining) (x : TriesLeft) → r .remaining .result ≡ x →
+    let a = r .before .args in loadBy (a .exists) (a .fresh) x ≡ loadOf (a .log) (a .credential) (a .exists) (a .fresh)
 by r x e = let a = r .before .args in ap (loadBy (a .exists) (a .fresh)) (sym e ∙ r .remaining .ensures)
 
 remaining-requires : tie.Need-remaining-requires
@@ -33,7 +34,9 @@ returns c =
     let w = n .before .before in
     let a = w .answer .given .0 .0 in
     c .of .ensures
-    ∙ sym (ap (λ (b : Bool). pick b (toldOf 0) (toldRefused a)) (ap (leb 4) (sym (n .number .ensures)) ∙ le-leb 4 (n .number .result) (c .before .if1 .taken)))
+    ∙ sym
+    (ap (λ (b : Bool). pick b (toldOf 0) (toldRefused a))
+    (ap (leb 4) (sym (n .number .ensures)) ∙ le-leb 4 (n .number .result) (c .before .if1 .taken)))
     ∙ by (w .before .before) _ (w .answer .given .1)
 
 refused-requires : tie.Need-refused-requires
@@ -71,7 +74,9 @@ returns-3 c =
     let w = n .before .before in
     let a = w .answer .given .0 .0 in
     c .refused .ensures
-    ∙ sym (ap (λ (b : Bool). pick b (toldOf 0) (toldRefused a)) (ap (leb 4) (sym (n .number .ensures)) ∙ lt-leb 4 (n .number .result) (c .before .if1 .left)))
+    ∙ sym
+    (ap (λ (b : Bool). pick b (toldOf 0) (toldRefused a))
+    (ap (leb 4) (sym (n .number .ensures)) ∙ lt-leb 4 (n .number .result) (c .before .if1 .left)))
     ∙ by (w .before .before) _ (w .answer .given .1)
 
 returns-4 : tie.Need-returns-4

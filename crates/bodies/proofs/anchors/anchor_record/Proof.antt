@@ -54,7 +54,13 @@ array-read-t40 c = search needs
 
 returns-2 : tie.Need-returns-2
 unfolding anchorRecord leBytes
-returns-2 c = rw (le-ltb _ _ (c .before .before .before .if1 .left), c .before .before .bytes2 .ensures, c .before .bytes8 .ensures, c .bytes22 .ensures)
+returns-2 c =
+    rw (
+      le-ltb _ _ (c .before .before .before .if1 .left),
+      c .before .before .bytes2 .ensures,
+      c .before .bytes8 .ensures,
+      c .bytes22 .ensures,
+    )
 
 pub anchor-record-spec : {M : Type 1} → statement M
 anchor-record-spec =

@@ -39,7 +39,8 @@ has-magic-requires c κs = search needs
 returns-2 : tie.Need-returns-2
 unfolding headerOf
 returns-2 c =
-    let none : magicAt (slot (c .before .before .before .before)) ≡ false = sym (c .before .has-magic .ensures) ∙ not-true (c .before .has-magic .result) (c .if2 .taken) in
+    let none : magicAt (slot (c .before .before .before .before)) ≡ false =
+    sym (c .before .has-magic .ensures) ∙ not-true (c .before .has-magic .result) (c .if2 .taken) in
     rw (eq-eqb _ _ (c .before .before .if1 .left), none)
 
 shared-slice-read-if3 : tie.Need-shared-slice-read-if3
@@ -62,7 +63,12 @@ returns-4 : tie.Need-returns-4
 unfolding headerOf
 returns-4 c =
     let e3 = c .before .before .before .before in
-    rw (eq-eqb _ _ (e3 .before .before .before .before .if1 .left), magic (e3 .before .before), eq-eqb _ _ (e3 .if3 .left), ne-eqb _ _ (λ e. c .if4 .taken (checked (c .before .before) ∙ e ∙ sym (c .before .carried .ensures))))
+    rw (
+      eq-eqb _ _ (e3 .before .before .before .before .if1 .left),
+      magic (e3 .before .before),
+      eq-eqb _ _ (e3 .if3 .left),
+      ne-eqb _ _ (λ e. c .if4 .taken (checked (c .before .before) ∙ e ∙ sym (c .before .carried .ensures))),
+    )
 
 shared-slice-read-number4 : tie.Need-shared-slice-read-number4
 shared-slice-read-number4 c = search needs
@@ -86,7 +92,12 @@ returns-5 c =
     let e3 = e4 .before .before .before .before in
     let e1 = e3 .before .before .before .before in
     let s = slot (e1 .before .before) in
-    rw (eq-eqb _ _ (e1 .if1 .left), magic (e3 .before .before), eq-eqb _ _ (e3 .if3 .left), eq-eqb _ _ (sym (checked (e4 .before .before)) ∙ e4 .if4 .left ∙ e4 .before .carried .ensures))
+    rw (
+      eq-eqb _ _ (e1 .if1 .left),
+      magic (e3 .before .before),
+      eq-eqb _ _ (e3 .if3 .left),
+      eq-eqb _ _ (sym (checked (e4 .before .before)) ∙ e4 .if4 .left ∙ e4 .before .carried .ensures),
+    )
     (ap Valid (c .number4 .ensures ∙ ap leNumber (read-part 4 4 s (omega (arith, e1 .if1 .left)))))
 
 pub decode-header-spec : {M : Type 1} → statement M

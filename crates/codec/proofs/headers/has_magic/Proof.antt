@@ -21,7 +21,13 @@ array-read-if2 : tie.Need-array-read-if2
 array-read-if2 c = search needs
 
 returns-2 : tie.Need-returns-2
-returns-2 c = rw (magic-read (c .before .before .before .before .before .before .args .slot .now) (c .before .before .before .before .before .before .pre), eq-eqb _ _ (c .before .before .if1 .left), ne-eqb _ _ (c .if2 .taken))
+returns-2 c =
+    rw (
+      magic-read (c .before .before .before .before .before .before .args .slot .now)
+          (c .before .before .before .before .before .before .pre),
+      eq-eqb _ _ (c .before .before .if1 .left),
+      ne-eqb _ _ (c .if2 .taken),
+    )
 
 shared-slice-read-if3 : tie.Need-shared-slice-read-if3
 shared-slice-read-if3 c = search needs
@@ -30,7 +36,14 @@ array-read-if3 : tie.Need-array-read-if3
 array-read-if3 c = search needs
 
 returns-3 : tie.Need-returns-3
-returns-3 c = rw (magic-read (c .before .before .before .before .before .before .before .before .args .slot .now) (c .before .before .before .before .before .before .before .before .pre), eq-eqb _ _ (c .before .before .before .before .if1 .left), eq-eqb _ _ (c .before .before .if2 .left), ne-eqb _ _ (c .if3 .taken))
+returns-3 c =
+    rw (
+      magic-read (c .before .before .before .before .before .before .before .before .args .slot .now)
+          (c .before .before .before .before .before .before .before .before .pre),
+      eq-eqb _ _ (c .before .before .before .before .if1 .left),
+      eq-eqb _ _ (c .before .before .if2 .left),
+      ne-eqb _ _ (c .if3 .taken),
+    )
 
 shared-slice-read-result : tie.Need-shared-slice-read-result
 shared-slice-read-result c = search needs
@@ -39,7 +52,14 @@ array-read-result : tie.Need-array-read-result
 array-read-result c = search needs
 
 returns-4 : tie.Need-returns-4
-returns-4 c = rw (magic-read (c .before .before .before .before .before .before .before .before .before .args .slot .now) (c .before .before .before .before .before .before .before .before .before .pre), eq-eqb _ _ (c .before .before .before .before .before .if1 .left), eq-eqb _ _ (c .before .before .before .if2 .left), eq-eqb _ _ (c .before .if3 .left))
+returns-4 c =
+    rw (
+      magic-read (c .before .before .before .before .before .before .before .before .before .args .slot .now)
+          (c .before .before .before .before .before .before .before .before .before .pre),
+      eq-eqb _ _ (c .before .before .before .before .before .if1 .left),
+      eq-eqb _ _ (c .before .before .before .if2 .left),
+      eq-eqb _ _ (c .before .if3 .left),
+    )
 
 pub has-magic-spec : {M : Type 1} → statement M
 has-magic-spec =

@@ -34,14 +34,27 @@ nothing-requires-3 c κs = search needs
 
 returns-3 : tie.Need-returns-3
 unfolding decodedWith
-returns-3 c = rw (c .nothing3 .ensures, eq-eqb _ _ (c .before .before .before .before .before .before .if1 .left), ne-eqb _ _ (c .before .before .before .before .if2 .left), ne-eqb _ _ (λ e. c .before .if3 .taken (c .before .before .before .check12 .ensures ∙ e ∙ sym (c .before .before .carried .ensures))))
+returns-3 c =
+    rw (
+      c .nothing3 .ensures,
+      eq-eqb _ _ (c .before .before .before .before .before .before .if1 .left),
+      ne-eqb _ _ (c .before .before .before .before .if2 .left),
+      ne-eqb _ _
+          (λ e. c .before .if3 .taken (c .before .before .before .check12 .ensures ∙ e ∙ sym (c .before .before .carried .ensures))),
+    )
 
 from-slot-requires : tie.Need-from-slot-requires
 from-slot-requires c κs = search needs
 
 returns-4 : tie.Need-returns-4
 unfolding decodedWith
-returns-4 c = rw (c .from-slot .ensures, eq-eqb _ _ (c .before .before .before .before .before .before .if1 .left), ne-eqb _ _ (c .before .before .before .before .if2 .left), eq-eqb _ _ (sym (c .before .before .before .check12 .ensures) ∙ c .before .if3 .left ∙ c .before .before .carried .ensures))
+returns-4 c =
+    rw (
+      c .from-slot .ensures,
+      eq-eqb _ _ (c .before .before .before .before .before .before .if1 .left),
+      ne-eqb _ _ (c .before .before .before .before .if2 .left),
+      eq-eqb _ _ (sym (c .before .before .before .check12 .ensures) ∙ c .before .if3 .left ∙ c .before .before .carried .ensures),
+    )
 
 pub decode-from-spec : {M : Type 1} → statement M
 decode-from-spec =

@@ -30,7 +30,9 @@ returns c = λ cut.
     let d = c .before .before in
     let s = start-of d in
     let a = s .args in
-    rw (on-refused (a .entry) (a .decision) (a .sectors) (a .log) (flash-of s cut) (sym (d .is-done .ensures) ∙ not-true (d .is-done .result) (c .before .if1 .taken)))
+    rw
+    (on-refused (a .entry) (a .decision) (a .sectors) (a .log) (flash-of s cut)
+    (sym (d .is-done .ensures) ∙ not-true (d .is-done .result) (c .before .if1 .taken)))
     (record { answered = c .answered .ensures; left = refl })
 
 enum-told : tie.Need-enum-told
@@ -58,7 +60,9 @@ returns-2 c = λ cut.
     let s = start-of (l .before) in
     let a = s .args in
     let g = m .state .given in
-    rw (on-given (a .entry) (a .decision) (a .sectors) (a .log) (flash-of s cut) (entered l) (g .0 .0) (g .0 .1 .0) (g .0 .1 .1 .0) (g .1) (not-true (a .decision .write) (c .before .if2 .taken)))
+    rw
+    (on-given (a .entry) (a .decision) (a .sectors) (a .log) (flash-of s cut) (entered l) (g .0 .0) (g .0 .1 .0) (g .0 .1 .1 .0) (g .1)
+    (not-true (a .decision .write) (c .before .if2 .taken)))
     (record { answered = c .answered4 .ensures; left = refl })
 
 write-record-requires : tie.Need-write-record-requires
@@ -97,7 +101,9 @@ returns-5 c = λ cut.
     let s = start-of (l .before) in
     let a = s .args in
     let g = m .state .given in
-    rw (on-written (a .entry) (a .decision) (a .sectors) (a .log) (flash-of s cut) (entered l) (g .0 .0) (g .0 .1 .0) (g .0 .1 .1 .0) (g .1) (not-false (a .decision .write) (w .if2 .left)))
+    rw
+    (on-written (a .entry) (a .decision) (a .sectors) (a .log) (flash-of s cut) (entered l) (g .0 .0) (g .0 .1 .0) (g .0 .1 .1 .0)
+    (g .1) (not-false (a .decision .write) (w .if2 .left)))
     (p .write-record .ensures cut)
 
 pub perform-spec : {M : Type 1} → statement M

@@ -85,13 +85,17 @@ returns c = λ cut.
     let s = n .before .before in
     let a = s .args in
     let count = n .new-count .ensures ∙ new-count s in
-    let records : take (n .new-count .result) (set (a .log .table) (a .at) (a .rec)) ≡ after s = ap₂ take count (new-table s) ∙ places-take (after s) in
-    let wrote : List Raw → Written = λ (t : List Raw). appendOf (a .sectors) (a .sector) (a .seq) (a .head) (a .log .«next_seq») (a .rec) t (flashWith (a .image .now) (a .used) cut) in
+    let records : take (n .new-count .result) (set (a .log .table) (a .at) (a .rec)) ≡ after s =
+    ap₂ take count (new-table s) ∙ places-take (after s) in
+    let wrote : List Raw → Written =
+    λ (t : List Raw).
+    appendOf (a .sectors) (a .sector) (a .seq) (a .head) (a .log .«next_seq») (a .rec) t (flashWith (a .image .now) (a .used) cut) in
     let shown = subst (λ (t : List Raw). ShowsWrote (wrote t) (p .append .result) (p .append .last .0)) records (p .append .ensures cut) in
     record {
       answered =
           c .finish .ensures
-          ∙ finished (wrote (after s)) (p .append .result) (a .value) (a .log) (after s) (before s) (set (a .log .table) (a .at) (a .rec)) (n .new-count .result) (shown .shown) (new-table s) count (tabled s) (counted s);
+          ∙ finished (wrote (after s)) (p .append .result) (a .value) (a .log) (after s) (before s) (set (a .log .table) (a .at) (a .rec))
+          (n .new-count .result) (shown .shown) (new-table s) count (tabled s) (counted s);
       left = shown .left;
     }
 

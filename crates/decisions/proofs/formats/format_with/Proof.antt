@@ -38,7 +38,8 @@ returns c = λ cut.
     record {
       answered =
           c .finish .ensures
-          ∙ finished (commitFirst (a .sectors) t (a .log .state) (a .log .«next_seq») (flashWith (a .image .now) (a .used) cut)) (p .commit .result) 0 (a .log) t [] (a .table) (a .count)
+          ∙ finished (commitFirst (a .sectors) t (a .log .state) (a .log .«next_seq») (flashWith (a .image .now) (a .used) cut))
+          (p .commit .result) 0 (a .log) t [] (a .table) (a .count)
           (shown .shown) (s .pre .3 .behind) (sym (s .pre .3 .counted))
           (ap (λ (l : Log). l .table) (log-is (a .log) whole (a .sectors) fits) ∙ ap places none)
           (sym (records-length (a .log) whole (a .sectors) fits) ∙ ap length none);

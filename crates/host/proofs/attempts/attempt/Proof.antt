@@ -1,4 +1,5 @@
--- `host::attempts::attempt` meets its contract: a walk of its MIR, by hand. The plan lies in a local, which is lent to one call and then to the next; the image is lent again to the first and given to the second.
+-- `host::attempts::attempt` meets its contract: a walk of its MIR, by hand. The plan lies in a local, which is lent to one call and then to
+-- the next; the image is lent again to the first and given to the second.
 use mathlib.Core.Path.{_≡_, refl, _∙_, ap}
 use Prim.Native.Nat.{ℕ}
 use mathlib.Core.List.{List, [], _∷_}
@@ -15,8 +16,10 @@ use prog.Wp.{Heap, Calls, Loops, WpFn, Tables}
 use ghost.Atoms.{Atoms, sem}
 use contract.Monad.{Fun, fact}
 use contract.Running.{givenOf, tables, tablesOf}
-use types.Kit.{Given, ‵, raw, given, ⋆, _⊛_, some, later, _$_, _∵_, !, qed, by, move, keep, drop, use1, use2, use3, split, join, pick, learn, fsplit, fjoin, feqL, suffices, frame, await, done}
-use types.Run.{look, init, forget, stop, hop, fld, from, load, addr, and-then, no-more, land, of-opd, assigns, returns, enter, alloc1, alloc0, params1, pass1, pass0, free1, free0}
+use types.Kit.{Given, ‵, raw, given, ⋆, _⊛_, some, later, _$_, _∵_, !, qed, by, move, keep, drop, use1, use2, use3, split, join, pick}
+use types.Kit.{learn, fsplit, fjoin, feqL, suffices, frame, await, done}
+use types.Run.{look, init, forget, stop, hop, fld, from, load, addr, and-then, no-more, land, of-opd, assigns, returns, enter, alloc1}
+use types.Run.{alloc0, params1, pass1, pass0, free1, free0}
 use types.Part.{agg, whole, sub, look-in}
 use types.SemTy.{Body}
 use types.Tokens.{lft-new, lft-end}
@@ -98,17 +101,32 @@ abbrev both-one : Single BothR
 both-one = struct-single At.the-type At′.the-laws At′.the-copy
 
 abbrev stayed : Stays (attempt.ended .signature .params) (attempt.ended .kept)
-stayed = (gave-slice (0 ∷ []) tt (plain (λ _. u8)), (stay-dropped (plain (λ _. LogR)) yes, (stay-dropped (plain (λ _. PlanR)) yes, (stay-dropped (plain (λ _. u8)) yes, (stay-dropped (plain (λ _. u8)) yes, (stay-dropped (plain (λ _. u64)) yes, tt))))))
+stayed = (
+  gave-slice (0 ∷ []) tt (plain (λ _. u8)),
+  (
+    stay-dropped (plain (λ _. LogR)) yes,
+    (
+      stay-dropped (plain (λ _. PlanR)) yes,
+      (stay-dropped (plain (λ _. u8)) yes, (stay-dropped (plain (λ _. u8)) yes, (stay-dropped (plain (λ _. u64)) yes, tt))),
+    ),
+  ),
+)
 
 -- the second call goes on from what the first left
-attempted : (ys : List ℕ) (log : Log) (h : Plan) (credential current seen : ℕ) (r₁ : Done) (zs : List ℕ) (p : Plan) → ShowsDoneLent (advanceOf ys log h seen) r₁ zs p → (next : Log) → next ≡ r₁ .log
-    → (r₂ : Done) (ws : List ℕ) (p₂ : Plan) → ShowsDoneLent (spendOf zs next p credential current) r₂ ws p₂ → (r : Attempted) → r ≡ record { numbered = r₁; spent = r₂ } → AttemptOf ys log h credential current seen r ws
+attempted : (ys : List ℕ) (log : Log) (h : Plan) (credential current seen : ℕ) (r₁ : Done) (zs : List ℕ) (p : Plan)
+    → ShowsDoneLent (advanceOf ys log h seen) r₁ zs p → (next : Log) → next ≡ r₁ .log
+    → (r₂ : Done) (ws : List ℕ) (p₂ : Plan) → ShowsDoneLent (spendOf zs next p credential current) r₂ ws p₂ → (r : Attempted)
+    → r ≡ record { numbered = r₁; spent = r₂ } → AttemptOf ys log h credential current seen r ws
 attempted ys log h credential current seen r₁ zs p e₁ next e r₂ ws p₂ e₂ r is =
     let o : Outcome = advanceOf ys log h seen in
     let log-is = e ∙ ap (λ (d : Done). d .log) (e₁ .met .answered) in
-    let goes-on : spendOf zs next p credential current ≡ spentAfter o credential current = λ i. spendOf (e₁ .met .left i) (log-is i) (e₁ .left i) credential current in
+    let goes-on : spendOf zs next p credential current ≡ spentAfter o credential current =
+    λ i. spendOf (e₁ .met .left i) (log-is i) (e₁ .left i) credential current in
     let second = e₂ .met .answered ∙ ap doneOf goes-on in
-    record { answered = is ∙ (λ i. record { numbered = e₁ .met .answered i; spent = second i }); left = e₂ .met .left ∙ ap (λ (x : Outcome). x .flash .image) goes-on }
+    record {
+      answered = is ∙ (λ i. record { numbered = e₁ .met .answered i; spent = second i });
+      left = e₂ .met .left ∙ ap (λ (x : Outcome). x .flash .image) goes-on;
+    }
 
 module _ {M : Type 1} (𝓤 : URA M) (H : Heap 𝓤) (A : Atoms 𝓤) (at-mem : Memory → SProp 𝓤) (run : Routine → Fun 𝓤) where
   -- the contracts that the proof cites
@@ -127,10 +145,13 @@ module _ {M : Type 1} (𝓤 : URA M) (H : Heap 𝓤) (A : Atoms 𝓤) (at-mem : 
   log-is : (d : Done) (r : Log) → ent 𝓤 (ensured 𝓤 H A log-after.ended (log-after.clauses 𝓤 H A at-mem run) tt (d, tt) tt r) (fact 𝓤 (r ≡ d .log))
   log-is d r = exE 𝓤 _ (λ ws. snd∗ 𝓤 (sem 𝓤 H A (lasts log-after.ended tt (d, tt) ws)) (fact 𝓤 (r ≡ d .log)))
 
-  both-is : (d d′ : Done) (r : Attempted) → ent 𝓤 (ensured 𝓤 H A both.ended (both.clauses 𝓤 H A at-mem run) tt (d, (d′, tt)) tt r) (fact 𝓤 (r ≡ record { numbered = d; spent = d′ }))
+  both-is : (d d′ : Done) (r : Attempted)
+      → ent 𝓤 (ensured 𝓤 H A both.ended (both.clauses 𝓤 H A at-mem run) tt (d, (d′, tt)) tt r)
+      (fact 𝓤 (r ≡ record { numbered = d; spent = d′ }))
   both-is d d′ r = exE 𝓤 _ (λ ws. snd∗ 𝓤 (sem 𝓤 H A (lasts both.ended tt (d, (d′, tt)) ws)) (fact 𝓤 (r ≡ record { numbered = d; spent = d′ })))
 
-module _ {M : Type 1} (𝓤 : URA M) (H : Heap 𝓤) (A : Atoms 𝓤) (W : Given 𝓤 H A) (at-mem : Memory → SProp 𝓤) (run : Routine → Fun 𝓤) (κ : Lft) (q : Share) (image : RefT (List ℕ)) (log : Log) (h : Plan) (credential current seen : ℕ) where
+module _ {M : Type 1} (𝓤 : URA M) (H : Heap 𝓤) (A : Atoms 𝓤) (W : Given 𝓤 H A) (at-mem : Memory → SProp 𝓤) (run : Routine → Fun 𝓤) (κ : Lft)
+    (q : Share) (image : RefT (List ℕ)) (log : Log) (h : Plan) (credential current seen : ℕ) where
   abbrev ys : List ℕ
   ys = image .now
 
@@ -150,15 +171,38 @@ module _ {M : Type 1} (𝓤 : URA M) (H : Heap 𝓤) (A : Atoms 𝓤) (W : Given
       → ent 𝓤 (⋆ 𝓤 H A (‵ (flft κ q) ∷ ‵ (finally u8 (image .name) ws) ∷ ‵ (BothR .own r (v ∷ [])) ∷ [])) (Post v)
   exits r v ws φ l =
       qed W (‵ (flft κ q) ∷ ‵ (finally u8 (image .name) ws) ∷ ‵ (BothR .own r (v ∷ [])) ∷ []) ∵
-      suffices ! _ (ends-at 𝓤 H A attempt.ended stayed (attempt.clauses 𝓤 H A at-mem run) W (((κ, tt), (q, tt), tt, a, vals), tt) v r (ws, (tt, (tt, (tt, (tt, (tt, tt)))))) (l, (tt, (tt, (tt, (tt, (tt, tt))))))) $ says ! φ $
-      nothing ! $ move ! (1 ∷ 0 ∷ []) $ join ! $ frame ! $ nothing ! $ nothing ! $ fjoin ! $ nothing ! $ fjoin ! $ nothing ! $ fjoin ! $ nothing ! $ fjoin ! $ nothing ! $ fjoin ! $ move ! (1 ∷ 0 ∷ []) $ fjoin ! $ done !
+      suffices ! _
+      (ends-at 𝓤 H A attempt.ended stayed (attempt.clauses 𝓤 H A at-mem run) W (((κ, tt), (q, tt), tt, a, vals), tt) v r
+      (ws, (tt, (tt, (tt, (tt, (tt, tt)))))) (l, (tt, (tt, (tt, (tt, (tt, tt)))))))
+      $
+      says ! φ $
+      nothing ! $ move ! (1 ∷ 0 ∷ []) $ join ! $ frame ! $ nothing ! $ nothing ! $ fjoin ! $ nothing ! $ fjoin ! $ nothing ! $ fjoin ! $
+      nothing ! $ fjoin ! $ nothing ! $ fjoin ! $ move ! (1 ∷ 0 ∷ []) $ fjoin ! $ done !
 
   -- what each callee's triple binds outside
   abbrev to-advance : ℕ → GName → ℕ → ℕ → GName → Advance 𝓤 H A at-mem run .Ghost
-  to-advance ν δ μ l ε = (((ν ∷ [], (μ ∷ [], tt)), (fullShare, (fullShare, tt)), tt, (image-at image δ ys, (log, (plan-at l ε h, (seen, tt)))), (s ∷ [], (log-one .val log ∷ [], (vptr l 0 ∷ [], (vint w64 seen ∷ [], tt))))), tt)
+  to-advance ν δ μ l ε = (
+    (
+      (ν ∷ [], (μ ∷ [], tt)),
+      (fullShare, (fullShare, tt)),
+      tt,
+      (image-at image δ ys, (log, (plan-at l ε h, (seen, tt)))),
+      (s ∷ [], (log-one .val log ∷ [], (vptr l 0 ∷ [], (vint w64 seen ∷ [], tt)))),
+    ),
+    tt,
+  )
 
   abbrev to-spend : List ℕ → Log → Val → ℕ → ℕ → GName → Plan → Spend 𝓤 H A at-mem run .Ghost
-  to-spend zs next w μ l ε p = (((κ, (μ ∷ [], tt)), (q, (fullShare, tt)), tt, (image-at image (image .name) zs, (next, (plan-at l ε p, (credential, (current, tt))))), (s ∷ [], (w ∷ [], (vptr l 0 ∷ [], (vint w8 credential ∷ [], (vint w8 current ∷ [], tt)))))), tt)
+  to-spend zs next w μ l ε p = (
+    (
+      (κ, (μ ∷ [], tt)),
+      (q, (fullShare, tt)),
+      tt,
+      (image-at image (image .name) zs, (next, (plan-at l ε p, (credential, (current, tt))))),
+      (s ∷ [], (w ∷ [], (vptr l 0 ∷ [], (vint w8 credential ∷ [], (vint w8 current ∷ [], tt))))),
+    ),
+    tt,
+  )
 
   abbrev to-log : Done → Val → LogAfter 𝓤 H A at-mem run .Ghost
   to-log d v = ((tt, tt, tt, (d, tt), (v ∷ [], tt)), tt)
@@ -166,83 +210,221 @@ module _ {M : Type 1} (𝓤 : URA M) (H : Heap 𝓤) (A : Atoms 𝓤) (W : Given
   abbrev to-both : Done → Val → Done → Val → Both 𝓤 H A at-mem run .Ghost
   to-both d v d′ v′ = ((tt, tt, tt, (d, (d′, tt)), (v ∷ [], (v′ ∷ [], tt))), tt)
 
-  module _ (C : Calls 𝓤 H) (Λ : Loops 𝓤 H) (fm : FmC 𝓤 H (W .laws) C) (known-advance : Triple 𝓤 (C advance-def.name) (Advance 𝓤 H A at-mem run)) (known-spend : Triple 𝓤 (C spend-def.name) (Spend 𝓤 H A at-mem run))
-      (known-log : Triple 𝓤 (C log-after-def.name) (LogAfter 𝓤 H A at-mem run)) (known-both : Triple 𝓤 (C both-def.name) (Both 𝓤 H A at-mem run)) where
-    walk : Room u8 (length ys) → Is LogR log (log-one .val log ∷ []) → Is PlanR h (planVals h) → Is u8 credential (vint w8 credential ∷ []) → Is u8 current (vint w8 current ∷ []) → Is u64 seen (vint w64 seen ∷ [])
-        → ent 𝓤 (onEntry 𝓤 H A attempt.signature (κ, tt) (q, tt) a vals) (WpFn 𝓤 H C Λ code.function (s ∷ log-one .val log ∷ LL.val P.the-type P′.the-laws h ∷ vint w8 credential ∷ vint w8 current ∷ vint w64 seen ∷ []) Post)
+  module _ (C : Calls 𝓤 H) (Λ : Loops 𝓤 H) (fm : FmC 𝓤 H (W .laws) C)
+      (known-advance : Triple 𝓤 (C advance-def.name) (Advance 𝓤 H A at-mem run))
+      (known-spend : Triple 𝓤 (C spend-def.name) (Spend 𝓤 H A at-mem run))
+      (known-log : Triple 𝓤 (C log-after-def.name) (LogAfter 𝓤 H A at-mem run))
+      (known-both : Triple 𝓤 (C both-def.name) (Both 𝓤 H A at-mem run)) where
+    walk : Room u8 (length ys) → Is LogR log (log-one .val log ∷ []) → Is PlanR h (planVals h) → Is u8 credential (vint w8 credential ∷ [])
+        → Is u8 current (vint w8 current ∷ []) → Is u64 seen (vint w64 seen ∷ [])
+        → ent 𝓤 (onEntry 𝓤 H A attempt.signature (κ, tt) (q, tt) a vals)
+        (WpFn 𝓤 H C Λ code.function
+        (s ∷ log-one .val log ∷ LL.val P.the-type P′.the-laws h ∷ vint w8 credential ∷ vint w8 current ∷ vint w64 seen ∷ []) Post)
     walk room is-log is-plan is-credential is-current is-seen =
-        qed W ((‵ (flft κ q) ⊛ ‵ ftrue) ∷ ‵ (owns (MutSlice (named 0) κ u8 ∷ LogR ∷ PlanR ∷ u8 ∷ u8 ∷ u64 ∷ []) a vals) ∷ []) ∵ enter ! C Λ code.function (s ∷ log-one .val log ∷ LL.val P.the-type P′.the-laws h ∷ vint w8 credential ∷ vint w8 current ∷ vint w64 seen ∷ []) _ $
-        alloc1 ! (λ l₀. alloc1 ! (λ l₁. alloc1 ! (λ l₂. alloc1 ! (λ l₃. alloc1 ! (λ l₄. alloc1 ! (λ l₅. alloc1 ! (λ l₆. alloc1 ! (λ l₇. alloc1 ! (λ l₈. alloc1 ! (λ l₉. alloc1 ! (λ l₁₀. alloc1 ! (λ l₁₁. alloc1 ! (λ l₁₂. alloc1 ! (λ l₁₃. alloc1 ! (λ l₁₄. alloc1 ! (λ l₁₅. alloc1 ! (λ l₁₆. alloc0 ! $ params1 ! $
-        pass1 ! (init ! 30 refl (tt, (tt, (record { fits = room .0 }, tt)))) $ pass1 ! (init ! 28 refl (typed 𝓤 H A W LogR log-one log _ is-log)) $ pass1 ! (init ! 26 refl (typed 𝓤 H A W PlanR plan-one h _ is-plan)) $
-        pass1 ! (init ! 24 refl (typed 𝓤 H A W u8 (uint-single w8) credential _ is-credential)) $ pass1 ! (init ! 22 refl (typed 𝓤 H A W u8 (uint-single w8) current _ is-current)) $ pass1 ! (init ! 20 refl (typed 𝓤 H A W u64 (uint-single w64) seen _ is-seen)) $ pass0 ! $
+        qed W ((‵ (flft κ q) ⊛ ‵ ftrue) ∷ ‵ (owns (MutSlice (named 0) κ u8 ∷ LogR ∷ PlanR ∷ u8 ∷ u8 ∷ u64 ∷ []) a vals) ∷ [])
+        ∵ enter ! C Λ code.function
+        (s ∷ log-one .val log ∷ LL.val P.the-type P′.the-laws h ∷ vint w8 credential ∷ vint w8 current ∷ vint w64 seen ∷ []) _ $
+        alloc1 !
+        (λ l₀. alloc1 ! (λ l₁. alloc1 ! (λ l₂. alloc1 ! (λ l₃. alloc1 ! (λ l₄. alloc1 ! (λ l₅. alloc1 ! (λ l₆. alloc1 ! (λ l₇. alloc1 ! (λ l₈. alloc1 ! (λ l₉. alloc1 ! (λ l₁₀. alloc1 ! (λ l₁₁. alloc1 ! (λ l₁₂. alloc1 ! (λ l₁₃. alloc1 ! (λ l₁₄. alloc1 ! (λ l₁₅. alloc1 ! (λ l₁₆. alloc0 ! $ params1 ! $
+        pass1 ! (init ! 30 refl (tt, (tt, (record { fits = room .0 }, tt)))) $
+        pass1 ! (init ! 28 refl (typed 𝓤 H A W LogR log-one log _ is-log)) $
+        pass1 ! (init ! 26 refl (typed 𝓤 H A W PlanR plan-one h _ is-plan)) $
+        pass1 ! (init ! 24 refl (typed 𝓤 H A W u8 (uint-single w8) credential _ is-credential)) $
+        pass1 ! (init ! 22 refl (typed 𝓤 H A W u8 (uint-single w8) current _ is-current)) $
+        pass1 ! (init ! 20 refl (typed 𝓤 H A W u64 (uint-single w64) seen _ is-seen)) $ pass0 ! $
         -- [_16; …; _0; …; the token; what is owned]: the plan goes into its local, and both are lent
-        assigns ! (of-opd ! (load ! (from ! (stop !)) (look ! 26 refl))) (from ! (stop !)) (init ! 18 refl (typed 𝓤 H A W PlanR plan-one h _ is-plan)) $
-        assigns ! (addr ! (from ! (fld ! refl (hop ! (look-in ! 30 (sub ! 0 refl (whole !))) (stop !))))) (from ! (stop !)) (init ! 10 refl (tt, tt)) $
-        assigns ! (agg ! (and-then ! (load ! (from ! (stop !)) (look ! 10 refl)) (and-then ! (load ! (from ! (fld ! refl (stop !))) (look-in ! 30 (sub ! 1 refl (whole !)))) (no-more !)))) (from ! (stop !)) (init ! 8 refl (tt, (tt, (record { fits = room .0 }, tt)))) $
+        assigns ! (of-opd ! (load ! (from ! (stop !)) (look ! 26 refl))) (from ! (stop !))
+        (init ! 18 refl (typed 𝓤 H A W PlanR plan-one h _ is-plan)) $
+        assigns ! (addr ! (from ! (fld ! refl (hop ! (look-in ! 30 (sub ! 0 refl (whole !))) (stop !))))) (from ! (stop !))
+        (init ! 10 refl (tt, tt)) $
+        assigns !
+        (agg !
+        (and-then ! (load ! (from ! (stop !)) (look ! 10 refl))
+        (and-then ! (load ! (from ! (fld ! refl (stop !))) (look-in ! 30 (sub ! 1 refl (whole !)))) (no-more !))))
+        (from ! (stop !)) (init ! 8 refl (tt, (tt, (record { fits = room .0 }, tt)))) $
         assigns ! (addr ! (from ! (stop !))) (from ! (stop !)) (init ! 6 refl (tt, tt)) $
-        move ! (35 ∷ []) $ fsplit ! $ move ! (1 ∷ []) $ drop ! $ move ! (35 ∷ []) $ split ! $ move ! (2 ∷ 0 ∷ []) $ lft-new ! tt (λ ν. move ! (1 ∷ 2 ∷ []) $
-        use2 W (later (some (λ (δ : GName). ‵ (MutSlice (named 0) (ν ∷ []) u8 .own (image-at image δ ys) (s ∷ [])) ⊛ ‵ (Awaited image κ q (ν ∷ []) δ)))) (lends-image 𝓤 H A W image κ q (ν ∷ [])) $ await ! tt $ pick ! (λ δ. split ! $
-        lft-new ! tt (λ μ. move ! (23 ∷ []) $ use1 W (later (some (λ (ε : GName). ‵ (MutRef (named 1) (μ ∷ []) PlanR .own (plan-at l₇ ε h) (vptr l₇ 0 ∷ [])) ⊛ ‵ (flent (μ ∷ []) (Body (mem PlanR) l₇ 0 ε))))) (lends-local 𝓤 H A W l₇ (μ ∷ []) h is-plan) $ await ! tt $ pick ! (λ ε. split ! $
+        move ! (35 ∷ []) $ fsplit ! $ move ! (1 ∷ []) $ drop ! $ move ! (35 ∷ []) $ split ! $ move ! (2 ∷ 0 ∷ []) $
+        lft-new ! tt (λ ν. move ! (1 ∷ 2 ∷ []) $
+        use2 W
+        (later
+        (some
+        (λ (δ : GName).
+        ‵ (MutSlice (named 0) (ν ∷ []) u8 .own (image-at image δ ys) (s ∷ [])) ⊛ ‵ (Awaited image κ q (ν ∷ []) δ))))
+        (lends-image 𝓤 H A W image κ q (ν ∷ [])) $
+        await ! tt $ pick ! (λ δ. split ! $
+        lft-new ! tt
+        (λ μ. move ! (23 ∷ []) $ use1 W (later (some (λ (ε : GName). ‵ (MutRef (named 1) (μ ∷ []) PlanR .own (plan-at l₇ ε h) (vptr l₇ 0 ∷ [])) ⊛ ‵ (flent (μ ∷ []) (Body (mem PlanR) l₇ 0 ε))))) (lends-local 𝓤 H A W l₇ (μ ∷ []) h is-plan) $ await ! tt $ pick ! (λ ε. split ! $
         -- [the plan's reference; what comes back of it; its token; the image; what comes back of it; its token; …; _16; …]: the number
-        owned ! u64 (Is u64) (uint-makes 𝓤 H A W w64) seen _ is-seen $ nothing ! $ move ! (1 ∷ 0 ∷ []) $ fjoin ! $ move ! (1 ∷ 0 ∷ []) $ fjoin ! $ owned ! LogR (Is LogR) (LL.makes Lg.the-type Lg′.the-plain 𝓤 H A) log _ is-log $ fjoin ! $ move ! (3 ∷ 0 ∷ []) $ fjoin ! $
-        move ! (2 ∷ 5 ∷ []) $ join ! $ move ! (4 ∷ 0 ∷ []) $ join ! $ join ! $ nothing ! $ move ! (1 ∷ 0 ∷ []) $ join ! $ use1 W (raw (Advance 𝓤 H A at-mem run .pre (to-advance ν δ μ l₇ ε))) (id⊢ 𝓤 _) $
-        calls-at ! fm (Advance 𝓤 H A at-mem run) known-advance (to-advance ν δ μ l₇ ε) (and-then ! (load ! (from ! (stop !)) (look ! 11 refl)) (and-then ! (load ! (from ! (stop !)) (look ! 30 refl)) (and-then ! (load ! (from ! (stop !)) (look ! 9 refl)) (and-then ! (load ! (from ! (stop !)) (look ! 22 refl)) (no-more !))))) (λ v₁.
-        use1 W (later (some (λ (r : Done). ((‵ (flft (ν ∷ []) fullShare) ⊛ ‵ (flft (μ ∷ []) fullShare) ⊛ ‵ ftrue) ⊛ ‵ (DoneR .own r (v₁ ∷ []))) ⊛ raw (ensured 𝓤 H A advance.ended (advance.clauses 𝓤 H A at-mem run) (ν ∷ [], (μ ∷ [], tt)) (image-at image δ ys, (log, (plan-at l₇ ε h, (seen, tt)))) tt r)))) (id⊢ 𝓤 _) $ await ! tt $ pick ! (λ r₁.
-        split ! $ move ! (1 ∷ []) $ use1 W (some (λ (t : Lasts advance.ended (ν ∷ [], (μ ∷ [], tt)) (image-at image δ ys, (log, (plan-at l₇ ε h, (seen, tt))))). ‵ (lasts advance.ended (ν ∷ [], (μ ∷ [], tt)) (image-at image δ ys, (log, (plan-at l₇ ε h, (seen, tt)))) t) ⊛ raw (fact 𝓤 (ShowsDoneLent (advanceOf ys log h seen) r₁ (t .0) (t .1 .1 .0))))) (id⊢ 𝓤 _) $ pick ! (λ t.
-        split ! $ move ! (1 ∷ []) $ heard ! (ShowsDoneLent (advanceOf ys log h seen) r₁ (t .0) (t .1 .1 .0)) (λ e₁. fsplit ! $ fsplit ! $ move ! (1 ∷ []) $ feqL ! (λ n₁. move ! (1 ∷ []) $ fsplit ! $ drop ! $ fsplit ! $
+        owned ! u64 (Is u64) (uint-makes 𝓤 H A W w64) seen _ is-seen $ nothing ! $ move ! (1 ∷ 0 ∷ []) $ fjoin ! $ move ! (1 ∷ 0 ∷ []) $
+        fjoin ! $ owned ! LogR (Is LogR) (LL.makes Lg.the-type Lg′.the-plain 𝓤 H A) log _ is-log $ fjoin ! $ move ! (3 ∷ 0 ∷ []) $ fjoin ! $
+        move ! (2 ∷ 5 ∷ []) $ join ! $ move ! (4 ∷ 0 ∷ []) $ join ! $ join ! $ nothing ! $ move ! (1 ∷ 0 ∷ []) $ join ! $
+        use1 W (raw (Advance 𝓤 H A at-mem run .pre (to-advance ν δ μ l₇ ε))) (id⊢ 𝓤 _) $
+        calls-at ! fm (Advance 𝓤 H A at-mem run) known-advance (to-advance ν δ μ l₇ ε)
+        (and-then ! (load ! (from ! (stop !)) (look ! 11 refl))
+        (and-then ! (load ! (from ! (stop !)) (look ! 30 refl))
+        (and-then ! (load ! (from ! (stop !)) (look ! 9 refl))
+        (and-then ! (load ! (from ! (stop !)) (look ! 22 refl)) (no-more !)))))
+        (λ v₁.
+        use1 W
+        (later
+        (some
+        (λ (r : Done).
+        ((‵ (flft (ν ∷ []) fullShare) ⊛ ‵ (flft (μ ∷ []) fullShare) ⊛ ‵ ftrue) ⊛ ‵ (DoneR .own r (v₁ ∷ []))) ⊛ raw
+        (ensured 𝓤 H A advance.ended (advance.clauses 𝓤 H A at-mem run) (ν ∷ [], (μ ∷ [], tt))
+        (image-at image δ ys, (log, (plan-at l₇ ε h, (seen, tt)))) tt r))))
+        (id⊢ 𝓤 _) $
+        await ! tt $ pick ! (λ r₁.
+        split ! $ move ! (1 ∷ []) $
+        use1 W
+        (some
+        (λ (t : Lasts advance.ended (ν ∷ [], (μ ∷ [], tt)) (image-at image δ ys, (log, (plan-at l₇ ε h, (seen, tt))))).
+        ‵ (lasts advance.ended (ν ∷ [], (μ ∷ [], tt)) (image-at image δ ys, (log, (plan-at l₇ ε h, (seen, tt)))) t) ⊛ raw
+        (fact 𝓤 (ShowsDoneLent (advanceOf ys log h seen) r₁ (t .0) (t .1 .1 .0)))))
+        (id⊢ 𝓤 _) $
+        pick ! (λ t.
+        split ! $ move ! (1 ∷ []) $
+        heard ! (ShowsDoneLent (advanceOf ys log h seen) r₁ (t .0) (t .1 .1 .0))
+        (λ e₁. fsplit ! $ fsplit ! $ move ! (1 ∷ []) $ feqL ! (λ n₁. move ! (1 ∷ []) $ fsplit ! $ drop ! $ fsplit ! $
         -- both come back: the plan as the call left it, and the image
         move ! (3 ∷ []) $ split ! $ split ! $ lft-end ! tt $ move ! (1 ∷ []) $ split ! $ lft-end ! tt $ move ! (0 ∷ 7 ∷ 4 ∷ []) $
-        use3 W (later (given (Is PlanR (t .1 .1 .0) (planVals (t .1 .1 .0))) (‵ (cell l₇ (t .1 .1 .0))))) (local-back 𝓤 H A W l₇ (μ ∷ []) ε (t .1 .1 .0)) $ await ! tt $ learn ! (λ is-left. move ! (2 ∷ 6 ∷ 5 ∷ []) $
-        use3 W (later (‵ (MutSlice (named 0) κ u8 .own (image-at image (image .name) (t .0)) (s ∷ [])) ⊛ ‵ (flft κ q))) (image-back 𝓤 H A W image κ q (ν ∷ []) δ (t .0) room n₁) $ await ! tt $ split ! $
-        move ! (4 ∷ []) $ peeks ! DoneR (Is DoneR) (shows 𝓤 H A DoneR) r₁ (v₁ ∷ []) (λ is₁. drop ! $ land ! (from ! (stop !)) (init ! 21 refl (typed 𝓤 H A W DoneR done-one r₁ v₁ is₁)) $
+        use3 W (later (given (Is PlanR (t .1 .1 .0) (planVals (t .1 .1 .0))) (‵ (cell l₇ (t .1 .1 .0)))))
+        (local-back 𝓤 H A W l₇ (μ ∷ []) ε (t .1 .1 .0)) $
+        await ! tt $ learn ! (λ is-left. move ! (2 ∷ 6 ∷ 5 ∷ []) $
+        use3 W (later (‵ (MutSlice (named 0) κ u8 .own (image-at image (image .name) (t .0)) (s ∷ [])) ⊛ ‵ (flft κ q)))
+        (image-back 𝓤 H A W image κ q (ν ∷ []) δ (t .0) room n₁) $
+        await ! tt $ split ! $
+        move ! (4 ∷ []) $
+        peeks ! DoneR (Is DoneR) (shows 𝓤 H A DoneR) r₁ (v₁ ∷ [])
+        (λ is₁. drop ! $ land ! (from ! (stop !)) (init ! 21 refl (typed 𝓤 H A W DoneR done-one r₁ v₁ is₁)) $
         -- [the image; its token; the plan's local; …; …; _16; …]: the log that the number left
-        owned ! DoneR (Is DoneR) (LL.makes D.the-type D′.the-plain 𝓤 H A) r₁ (v₁ ∷ []) is₁ $ nothing ! $ move ! (1 ∷ 0 ∷ []) $ fjoin ! $ nothing ! $ join ! $ nothing ! $ move ! (1 ∷ 0 ∷ []) $ join ! $ use1 W (raw (LogAfter 𝓤 H A at-mem run .pre (to-log r₁ v₁))) (id⊢ 𝓤 _) $
+        owned ! DoneR (Is DoneR) (LL.makes D.the-type D′.the-plain 𝓤 H A) r₁ (v₁ ∷ []) is₁ $ nothing ! $ move ! (1 ∷ 0 ∷ []) $ fjoin ! $
+        nothing ! $ join ! $ nothing ! $ move ! (1 ∷ 0 ∷ []) $ join ! $
+        use1 W (raw (LogAfter 𝓤 H A at-mem run .pre (to-log r₁ v₁))) (id⊢ 𝓤 _) $
         calls-at ! fm (LogAfter 𝓤 H A at-mem run) known-log (to-log r₁ v₁) (and-then ! (load ! (from ! (stop !)) (look ! 22 refl)) (no-more !)) (λ v₂.
-        use1 W (later (some (λ (r : Log). (‵ ftrue ⊛ ‵ (LogR .own r (v₂ ∷ []))) ⊛ raw (ensured 𝓤 H A log-after.ended (log-after.clauses 𝓤 H A at-mem run) tt (r₁, tt) tt r)))) (id⊢ 𝓤 _) $ await ! tt $ pick ! (λ next.
-        split ! $ move ! (1 ∷ []) $ use1 W (raw (fact 𝓤 (next ≡ r₁ .log))) (log-is 𝓤 H A at-mem run r₁ next) $ heard ! (next ≡ r₁ .log) (λ e₂. split ! $ drop ! $
-        peeks ! LogR (Is LogR) (shows 𝓤 H A LogR) next (v₂ ∷ []) (λ is-next. drop ! $ land ! (from ! (stop !)) (init ! 19 refl (typed 𝓤 H A W LogR log-one next v₂ is-next)) $
+        use1 W
+        (later
+        (some
+        (λ (r : Log).
+        (‵ ftrue ⊛ ‵ (LogR .own r (v₂ ∷ []))) ⊛ raw
+        (ensured 𝓤 H A log-after.ended (log-after.clauses 𝓤 H A at-mem run) tt (r₁, tt) tt r))))
+        (id⊢ 𝓤 _) $
+        await ! tt $ pick ! (λ next.
+        split ! $ move ! (1 ∷ []) $ use1 W (raw (fact 𝓤 (next ≡ r₁ .log))) (log-is 𝓤 H A at-mem run r₁ next) $
+        heard ! (next ≡ r₁ .log) (λ e₂. split ! $ drop ! $
+        peeks ! LogR (Is LogR) (shows 𝓤 H A LogR) next (v₂ ∷ [])
+        (λ is-next. drop ! $ land ! (from ! (stop !)) (init ! 19 refl (typed 𝓤 H A W LogR log-one next v₂ is-next)) $
         -- the plan is lent again, and the image goes for good
         assigns ! (addr ! (from ! (fld ! refl (hop ! (look-in ! 34 (sub ! 0 refl (whole !))) (stop !))))) (from ! (stop !)) (init ! 9 refl (tt, tt)) $
-        assigns ! (agg ! (and-then ! (load ! (from ! (stop !)) (look ! 9 refl)) (and-then ! (load ! (from ! (fld ! refl (stop !))) (look-in ! 34 (sub ! 1 refl (whole !)))) (no-more !)))) (from ! (stop !)) (init ! 7 refl (tt, (tt, (record { fits = room .0 }, tt)))) $
+        assigns !
+        (agg !
+        (and-then ! (load ! (from ! (stop !)) (look ! 9 refl))
+        (and-then ! (load ! (from ! (fld ! refl (stop !))) (look-in ! 34 (sub ! 1 refl (whole !)))) (no-more !))))
+        (from ! (stop !)) (init ! 7 refl (tt, (tt, (record { fits = room .0 }, tt)))) $
         assigns ! (addr ! (from ! (stop !))) (from ! (stop !)) (init ! 5 refl (tt, tt)) $
-        lft-new ! tt (λ μ₂. move ! (3 ∷ []) $ use1 W (later (some (λ (ε₂ : GName). ‵ (MutRef (named 1) (μ₂ ∷ []) PlanR .own (plan-at l₇ ε₂ (t .1 .1 .0)) (vptr l₇ 0 ∷ [])) ⊛ ‵ (flent (μ₂ ∷ []) (Body (mem PlanR) l₇ 0 ε₂))))) (lends-local 𝓤 H A W l₇ (μ₂ ∷ []) (t .1 .1 .0) is-left) $ await ! tt $ pick ! (λ ε₂. split ! $
-        owned ! u8 (Is u8) (uint-makes 𝓤 H A W w8) current _ is-current $ nothing ! $ move ! (1 ∷ 0 ∷ []) $ fjoin ! $ owned ! u8 (Is u8) (uint-makes 𝓤 H A W w8) credential _ is-credential $ fjoin ! $ move ! (1 ∷ 0 ∷ []) $ fjoin ! $
-        owned ! LogR (Is LogR) (LL.makes Lg.the-type Lg′.the-plain 𝓤 H A) next (v₂ ∷ []) is-next $ fjoin ! $ move ! (3 ∷ 0 ∷ []) $ fjoin ! $ move ! (2 ∷ 4 ∷ []) $ join ! $ move ! (3 ∷ 0 ∷ []) $ join ! $ join ! $ nothing ! $ move ! (1 ∷ 0 ∷ []) $ join ! $
+        lft-new ! tt
+        (λ μ₂. move ! (3 ∷ []) $ use1 W (later (some (λ (ε₂ : GName). ‵ (MutRef (named 1) (μ₂ ∷ []) PlanR .own (plan-at l₇ ε₂ (t .1 .1 .0)) (vptr l₇ 0 ∷ [])) ⊛ ‵ (flent (μ₂ ∷ []) (Body (mem PlanR) l₇ 0 ε₂))))) (lends-local 𝓤 H A W l₇ (μ₂ ∷ []) (t .1 .1 .0) is-left) $ await ! tt $ pick ! (λ ε₂. split ! $
+        owned ! u8 (Is u8) (uint-makes 𝓤 H A W w8) current _ is-current $ nothing ! $ move ! (1 ∷ 0 ∷ []) $ fjoin ! $
+        owned ! u8 (Is u8) (uint-makes 𝓤 H A W w8) credential _ is-credential $ fjoin ! $ move ! (1 ∷ 0 ∷ []) $ fjoin ! $
+        owned ! LogR (Is LogR) (LL.makes Lg.the-type Lg′.the-plain 𝓤 H A) next (v₂ ∷ []) is-next $ fjoin ! $ move ! (3 ∷ 0 ∷ []) $ fjoin ! $
+        move ! (2 ∷ 4 ∷ []) $ join ! $ move ! (3 ∷ 0 ∷ []) $ join ! $ join ! $ nothing ! $ move ! (1 ∷ 0 ∷ []) $ join ! $
         use1 W (raw (Spend 𝓤 H A at-mem run .pre (to-spend (t .0) next v₂ μ₂ l₇ ε₂ (t .1 .1 .0)))) (id⊢ 𝓤 _) $
         calls-at ! fm (Spend 𝓤 H A at-mem run) known-spend (to-spend (t .0) next v₂ μ₂ l₇ ε₂ (t .1 .1 .0))
-        (and-then ! (load ! (from ! (stop !)) (look ! 5 refl)) (and-then ! (load ! (from ! (stop !)) (look ! 17 refl)) (and-then ! (load ! (from ! (stop !)) (look ! 3 refl)) (and-then ! (load ! (from ! (stop !)) (look ! 26 refl)) (and-then ! (load ! (from ! (stop !)) (look ! 24 refl)) (no-more !)))))) (λ v₃.
-        use1 W (later (some (λ (r : Done). ((‵ (flft κ q) ⊛ ‵ (flft (μ₂ ∷ []) fullShare) ⊛ ‵ ftrue) ⊛ ‵ (DoneR .own r (v₃ ∷ []))) ⊛ raw (ensured 𝓤 H A spend.ended (spend.clauses 𝓤 H A at-mem run) (κ, (μ₂ ∷ [], tt)) (image-at image (image .name) (t .0), (next, (plan-at l₇ ε₂ (t .1 .1 .0), (credential, (current, tt))))) tt r)))) (id⊢ 𝓤 _) $ await ! tt $ pick ! (λ r₃.
-        split ! $ move ! (1 ∷ []) $ use1 W (some (λ (w : Lasts spend.ended (κ, (μ₂ ∷ [], tt)) (image-at image (image .name) (t .0), (next, (plan-at l₇ ε₂ (t .1 .1 .0), (credential, (current, tt)))))). ‵ (lasts spend.ended (κ, (μ₂ ∷ [], tt)) (image-at image (image .name) (t .0), (next, (plan-at l₇ ε₂ (t .1 .1 .0), (credential, (current, tt))))) w)
+        (and-then ! (load ! (from ! (stop !)) (look ! 5 refl))
+        (and-then ! (load ! (from ! (stop !)) (look ! 17 refl))
+        (and-then ! (load ! (from ! (stop !)) (look ! 3 refl))
+        (and-then ! (load ! (from ! (stop !)) (look ! 26 refl))
+        (and-then ! (load ! (from ! (stop !)) (look ! 24 refl)) (no-more !))))))
+        (λ v₃.
+        use1 W
+        (later
+        (some
+        (λ (r : Done).
+        ((‵ (flft κ q) ⊛ ‵ (flft (μ₂ ∷ []) fullShare) ⊛ ‵ ftrue) ⊛ ‵ (DoneR .own r (v₃ ∷ []))) ⊛ raw
+        (ensured 𝓤 H A spend.ended (spend.clauses 𝓤 H A at-mem run) (κ, (μ₂ ∷ [], tt))
+        (image-at image (image .name) (t .0), (next, (plan-at l₇ ε₂ (t .1 .1 .0), (credential, (current, tt)))))
+        tt r))))
+        (id⊢ 𝓤 _) $
+        await ! tt $ pick ! (λ r₃.
+        split ! $ move ! (1 ∷ []) $
+        use1 W
+        (some (λ (w : Lasts spend.ended (κ, (μ₂ ∷ [], tt)) (image-at image (image .name) (t .0), (next, (plan-at l₇ ε₂ (t .1 .1 .0), (credential, (current, tt)))))). ‵ (lasts spend.ended (κ, (μ₂ ∷ [], tt)) (image-at image (image .name) (t .0), (next, (plan-at l₇ ε₂ (t .1 .1 .0), (credential, (current, tt))))) w)
         ⊛ raw (fact 𝓤 (ShowsDoneLent (spendOf (t .0) next (t .1 .1 .0) credential current) r₃ (w .0) (w .1 .1 .0))))) (id⊢ 𝓤 _) $ pick ! (λ w.
-        split ! $ move ! (1 ∷ []) $ heard ! (ShowsDoneLent (spendOf (t .0) next (t .1 .1 .0) credential current) r₃ (w .0) (w .1 .1 .0)) (λ e₃. fsplit ! $ fsplit ! $ move ! (1 ∷ []) $ feqL ! (λ n₂. move ! (1 ∷ []) $ fsplit ! $ drop ! $ fsplit ! $
+        split ! $ move ! (1 ∷ []) $
+        heard ! (ShowsDoneLent (spendOf (t .0) next (t .1 .1 .0) credential current) r₃ (w .0) (w .1 .1 .0))
+        (λ e₃. fsplit ! $ fsplit ! $ move ! (1 ∷ []) $ feqL ! (λ n₂. move ! (1 ∷ []) $ fsplit ! $ drop ! $ fsplit ! $
         -- the plan's local comes back, to be freed
         move ! (3 ∷ []) $ split ! $ split ! $ move ! (1 ∷ []) $ split ! $ lft-end ! tt $ move ! (0 ∷ 7 ∷ 4 ∷ []) $
-        use3 W (later (given (Is PlanR (w .1 .1 .0) (planVals (w .1 .1 .0))) (‵ (cell l₇ (w .1 .1 .0))))) (local-back 𝓤 H A W l₇ (μ₂ ∷ []) ε₂ (w .1 .1 .0)) $ await ! tt $ learn ! (λ _.
-        move ! (3 ∷ []) $ peeks ! DoneR (Is DoneR) (shows 𝓤 H A DoneR) r₃ (v₃ ∷ []) (λ is₃. drop ! $ land ! (from ! (stop !)) (init ! 18 refl (typed 𝓤 H A W DoneR done-one r₃ v₃ is₃)) $
+        use3 W (later (given (Is PlanR (w .1 .1 .0) (planVals (w .1 .1 .0))) (‵ (cell l₇ (w .1 .1 .0)))))
+        (local-back 𝓤 H A W l₇ (μ₂ ∷ []) ε₂ (w .1 .1 .0)) $
+        await ! tt $ learn ! (λ _.
+        move ! (3 ∷ []) $
+        peeks ! DoneR (Is DoneR) (shows 𝓤 H A DoneR) r₃ (v₃ ∷ [])
+        (λ is₃. drop ! $ land ! (from ! (stop !)) (init ! 18 refl (typed 𝓤 H A W DoneR done-one r₃ v₃ is₃)) $
         -- [the plan's local; …; the image's token; …; its last bytes; …; _16; …]: both answers
-        nothing ! $ owned ! DoneR (Is DoneR) (LL.makes D.the-type D′.the-plain 𝓤 H A) r₃ (v₃ ∷ []) is₃ $ fjoin ! $ owned ! DoneR (Is DoneR) (LL.makes D.the-type D′.the-plain 𝓤 H A) r₁ (v₁ ∷ []) is₁ $ fjoin ! $ nothing ! $ join ! $ nothing ! $ move ! (1 ∷ 0 ∷ []) $ join ! $
+        nothing ! $ owned ! DoneR (Is DoneR) (LL.makes D.the-type D′.the-plain 𝓤 H A) r₃ (v₃ ∷ []) is₃ $ fjoin ! $
+        owned ! DoneR (Is DoneR) (LL.makes D.the-type D′.the-plain 𝓤 H A) r₁ (v₁ ∷ []) is₁ $ fjoin ! $ nothing ! $ join ! $ nothing ! $
+        move ! (1 ∷ 0 ∷ []) $ join ! $
         use1 W (raw (Both 𝓤 H A at-mem run .pre (to-both r₁ v₁ r₃ v₃))) (id⊢ 𝓤 _) $
-        calls-at ! fm (Both 𝓤 H A at-mem run) known-both (to-both r₁ v₁ r₃ v₃) (and-then ! (load ! (from ! (stop !)) (look ! 23 refl)) (and-then ! (load ! (from ! (stop !)) (look ! 19 refl)) (no-more !))) (λ v.
-        use1 W (later (some (λ (r : Attempted). (‵ ftrue ⊛ ‵ (BothR .own r (v ∷ []))) ⊛ raw (ensured 𝓤 H A both.ended (both.clauses 𝓤 H A at-mem run) tt (r₁, (r₃, tt)) tt r)))) (id⊢ 𝓤 _) $ await ! tt $ pick ! (λ r.
-        split ! $ move ! (1 ∷ []) $ use1 W (raw (fact 𝓤 (r ≡ record { numbered = r₁; spent = r₃ }))) (both-is 𝓤 H A at-mem run r₁ r₃ r) $ heard ! (r ≡ record { numbered = r₁; spent = r₃ }) (λ e₄. split ! $ drop ! $
-        peeks ! BothR (Is BothR) (shows 𝓤 H A BothR) r (v ∷ []) (λ is. land ! (from ! (stop !)) (init ! 38 refl (typed 𝓤 H A W BothR both-one r v is)) $
-        returns ! (look ! 38 refl) $ forget ! 1 refl $ forget ! 7 refl $ forget ! 9 refl $ forget ! 11 refl $ forget ! 13 refl $ forget ! 15 refl $ forget ! 17 refl $ forget ! 19 refl $ forget ! 21 refl $ forget ! 23 refl $ forget ! 26 refl $ forget ! 28 refl $ forget ! 30 refl $ forget ! 32 refl $ forget ! 34 refl $ forget ! 36 refl $ forget ! 38 refl $
-        move ! (38 ∷ 39 ∷ []) $ free1 ! $ move ! (36 ∷ 37 ∷ []) $ free1 ! $ move ! (34 ∷ 35 ∷ []) $ free1 ! $ move ! (32 ∷ 33 ∷ []) $ free1 ! $ move ! (30 ∷ 31 ∷ []) $ free1 ! $ move ! (28 ∷ 29 ∷ []) $ free1 ! $ move ! (26 ∷ 27 ∷ []) $ free1 ! $ move ! (1 ∷ 25 ∷ []) $ free1 ! $ move ! (22 ∷ 23 ∷ []) $ free1 ! $ move ! (20 ∷ 21 ∷ []) $ free1 ! $ move ! (18 ∷ 19 ∷ []) $ free1 ! $ move ! (16 ∷ 17 ∷ []) $ free1 ! $ move ! (14 ∷ 15 ∷ []) $ free1 ! $ move ! (12 ∷ 13 ∷ []) $ free1 ! $ move ! (10 ∷ 11 ∷ []) $ free1 ! $ move ! (8 ∷ 9 ∷ []) $ free1 ! $ move ! (6 ∷ 7 ∷ []) $ free1 ! $ free0 ! $
-        keep ! (2 ∷ 4 ∷ 0 ∷ []) $ by ! (exits r v (w .0) (attempted ys log h credential current seen r₁ (t .0) (t .1 .1 .0) e₁ next e₂ r₃ (w .0) (w .1 .1 .0) e₃ r e₄) (n₂ ∙ n₁)))))))))))))))))))))))))))))))))))))))))))))))
+        calls-at ! fm (Both 𝓤 H A at-mem run) known-both (to-both r₁ v₁ r₃ v₃)
+        (and-then ! (load ! (from ! (stop !)) (look ! 23 refl)) (and-then ! (load ! (from ! (stop !)) (look ! 19 refl)) (no-more !)))
+        (λ v.
+        use1 W
+        (later
+        (some
+        (λ (r : Attempted).
+        (‵ ftrue ⊛ ‵ (BothR .own r (v ∷ []))) ⊛ raw
+        (ensured 𝓤 H A both.ended (both.clauses 𝓤 H A at-mem run) tt (r₁, (r₃, tt)) tt r))))
+        (id⊢ 𝓤 _) $
+        await ! tt $ pick ! (λ r.
+        split ! $ move ! (1 ∷ []) $ use1 W (raw (fact 𝓤 (r ≡ record { numbered = r₁; spent = r₃ }))) (both-is 𝓤 H A at-mem run r₁ r₃ r) $
+        heard ! (r ≡ record { numbered = r₁; spent = r₃ }) (λ e₄. split ! $ drop ! $
+        peeks ! BothR (Is BothR) (shows 𝓤 H A BothR) r (v ∷ [])
+        (λ is. land ! (from ! (stop !)) (init ! 38 refl (typed 𝓤 H A W BothR both-one r v is)) $
+        returns ! (look ! 38 refl) $ forget ! 1 refl $ forget ! 7 refl $ forget ! 9 refl $ forget ! 11 refl $ forget ! 13 refl $
+        forget ! 15 refl $ forget ! 17 refl $ forget ! 19 refl $ forget ! 21 refl $ forget ! 23 refl $ forget ! 26 refl $ forget ! 28 refl $
+        forget ! 30 refl $ forget ! 32 refl $ forget ! 34 refl $ forget ! 36 refl $ forget ! 38 refl $
+        move ! (38 ∷ 39 ∷ []) $ free1 ! $ move ! (36 ∷ 37 ∷ []) $ free1 ! $ move ! (34 ∷ 35 ∷ []) $ free1 ! $ move ! (32 ∷ 33 ∷ []) $
+        free1 ! $ move ! (30 ∷ 31 ∷ []) $ free1 ! $ move ! (28 ∷ 29 ∷ []) $ free1 ! $ move ! (26 ∷ 27 ∷ []) $ free1 ! $
+        move ! (1 ∷ 25 ∷ []) $ free1 ! $ move ! (22 ∷ 23 ∷ []) $ free1 ! $ move ! (20 ∷ 21 ∷ []) $ free1 ! $ move ! (18 ∷ 19 ∷ []) $
+        free1 ! $ move ! (16 ∷ 17 ∷ []) $ free1 ! $ move ! (14 ∷ 15 ∷ []) $ free1 ! $ move ! (12 ∷ 13 ∷ []) $ free1 ! $
+        move ! (10 ∷ 11 ∷ []) $ free1 ! $ move ! (8 ∷ 9 ∷ []) $ free1 ! $ move ! (6 ∷ 7 ∷ []) $ free1 ! $ free0 ! $
+        keep ! (2 ∷ 4 ∷ 0 ∷ []) $
+        by !
+        (exits r v (w .0) (attempted ys log h credential current seen r₁ (t .0) (t .1 .1 .0) e₁ next e₂ r₃ (w .0) (w .1 .1 .0) e₃ r e₄)
+        (n₂ ∙ n₁)))))))))))))))))))))))))))))))))))))))))))))))
 
 module _ {M : Type 1} (𝓤 : URA M) (H : Heap 𝓤) (A : Atoms 𝓤) (W : Given 𝓤 H A) (at-mem : Memory → SProp 𝓤) (run : Routine → Fun 𝓤) where
   goes : AllGo 𝓤 H A W 1 (attempt.ended .signature .params) (attempt.ended .kept) stayed
-  goes = (goes-gave-slice 𝓤 H A W 1 0 tt (plain (λ _. u8)), (goes-dropped 𝓤 H A W 1 (plain (λ _. LogR)) yes (λ κs x f. refl), (goes-dropped 𝓤 H A W 1 (plain (λ _. PlanR)) yes (λ κs x f. refl), (goes-dropped 𝓤 H A W 1 (plain (λ _. u8)) yes (λ κs x f. refl), (goes-dropped 𝓤 H A W 1 (plain (λ _. u8)) yes (λ κs x f. refl), (goes-dropped 𝓤 H A W 1 (plain (λ _. u64)) yes (λ κs x f. refl), tt))))))
+  goes = (
+    goes-gave-slice 𝓤 H A W 1 0 tt (plain (λ _. u8)),
+    (
+      goes-dropped 𝓤 H A W 1 (plain (λ _. LogR)) yes (λ κs x f. refl),
+      (
+        goes-dropped 𝓤 H A W 1 (plain (λ _. PlanR)) yes (λ κs x f. refl),
+        (
+          goes-dropped 𝓤 H A W 1 (plain (λ _. u8)) yes (λ κs x f. refl),
+          (
+            goes-dropped 𝓤 H A W 1 (plain (λ _. u8)) yes (λ κs x f. refl),
+            (goes-dropped 𝓤 H A W 1 (plain (λ _. u64)) yes (λ κs x f. refl), tt),
+          ),
+        ),
+      ),
+    ),
+  )
 
-  attempt-meets : (𝓣 : Tables 𝓤 H) → Triple 𝓤 (𝓣 .C advance-def.name) (Advance 𝓤 H A at-mem run) → Triple 𝓤 (𝓣 .C spend-def.name) (Spend 𝓤 H A at-mem run) → Triple 𝓤 (𝓣 .C log-after-def.name) (LogAfter 𝓤 H A at-mem run) → Triple 𝓤 (𝓣 .C both-def.name) (Both 𝓤 H A at-mem run)
+  attempt-meets : (𝓣 : Tables 𝓤 H) → Triple 𝓤 (𝓣 .C advance-def.name) (Advance 𝓤 H A at-mem run)
+      → Triple 𝓤 (𝓣 .C spend-def.name) (Spend 𝓤 H A at-mem run) → Triple 𝓤 (𝓣 .C log-after-def.name) (LogAfter 𝓤 H A at-mem run)
+      → Triple 𝓤 (𝓣 .C both-def.name) (Both 𝓤 H A at-mem run)
       → Meets 𝓤 H A attempt.signature (WpFn 𝓤 H (𝓣 .C) (𝓣 .Λ) code.function) (attempt.spec 𝓤 H A at-mem run)
   attempt-meets 𝓣 known-advance known-spend known-log known-both =
-      walk-meets 𝓤 H A attempt.ended stayed W goes (attempt.clauses 𝓤 H A at-mem run) (WpFn 𝓤 H (𝓣 .C) (𝓣 .Λ) code.function) (WpFn-mono 𝓤 H (W .laws) 𝓣 code.function)
+      walk-meets 𝓤 H A attempt.ended stayed W goes (attempt.clauses 𝓤 H A at-mem run) (WpFn 𝓤 H (𝓣 .C) (𝓣 .Λ) code.function)
+      (WpFn-mono 𝓤 H (W .laws) 𝓣 code.function)
       (walked 𝓤 H A attempt.ended stayed (attempt.clauses 𝓤 H A at-mem run) (WpFn 𝓤 H (𝓣 .C) (𝓣 .Λ) code.function)
       (λ κs. (slice-vals, ((λ x. log-one .val x ∷ []), (planVals, (uint-vals w8, (uint-vals w8, (uint-vals w64, tt)))))))
       (λ κs. (mut-slice-tells (named 0) (κs .0) u8, (log-one .tells, (plan-one .tells, (uint-tells w8, (uint-tells w8, (uint-tells w64, tt)))))))
       (λ κs qs bounds a _ are. via 𝓤 _ (fst∗ 𝓤 _ (emp 𝓤)) (walk 𝓤 H A W at-mem run (κs .0) (qs .0) (a .0) (a .1 .0) (a .1 .1 .0) (a .1 .1 .1 .0) (a .1 .1 .1 .1 .0) (a .1 .1 .1 .1 .1 .0)
-      (𝓣 .C) (𝓣 .Λ) (fmOf 𝓤 H (W .laws) 𝓣) known-advance known-spend known-log known-both (are .0 .0 .1) (are .1 .0) (are .1 .1 .0) (are .1 .1 .1 .0) (are .1 .1 .1 .1 .0) (are .1 .1 .1 .1 .1 .0))))
+      (𝓣 .C) (𝓣 .Λ) (fmOf 𝓤 H (W .laws) 𝓣) known-advance known-spend known-log known-both (are .0 .0 .1) (are .1 .0) (are .1 .1 .0)
+      (are .1 .1 .1 .0) (are .1 .1 .1 .1 .0) (are .1 .1 .1 .1 .1 .0))))
 
 pub attempt-spec : {M : Type 1} → stated.statement M
 unfolding code.routine tablesOf
@@ -250,7 +432,10 @@ attempt-spec 𝓤 H 𝓜 𝓖 𝓡 =
     entered 𝓤 H (tripleOf 𝓤 H (𝓖 .A) attempt.signature (attempt.spec 𝓤 H (𝓖 .A) (𝓜 .mem) (𝓡 .run)))
     (tables 𝓤 H 𝓜 𝓡 code.env .C) (tables 𝓤 H 𝓜 𝓡 code.env .Λ) key.name code.function (code.unfolded 𝓤 H 𝓜 𝓡)
     (attempt-meets 𝓤 H (𝓖 .A) (givenOf 𝓤 H 𝓜 𝓖) (𝓜 .mem) (𝓡 .run) (tablesOf 𝓤 H 𝓜 (tables 𝓤 H 𝓜 𝓡 code.env))
-    (cited 𝓤 H (Advance 𝓤 H (𝓖 .A) (𝓜 .mem) (𝓡 .run)) 𝓜 𝓡 code.env advance-def.name advance-def.routine code.calls-host·advance-lamport (advance-thm.met 𝓤 H 𝓜 𝓖 𝓡))
+    (cited 𝓤 H (Advance 𝓤 H (𝓖 .A) (𝓜 .mem) (𝓡 .run)) 𝓜 𝓡 code.env advance-def.name advance-def.routine code.calls-host·advance-lamport
+    (advance-thm.met 𝓤 H 𝓜 𝓖 𝓡))
     (cited 𝓤 H (Spend 𝓤 H (𝓖 .A) (𝓜 .mem) (𝓡 .run)) 𝓜 𝓡 code.env spend-def.name spend-def.routine code.calls-host·spend (spend-thm.met 𝓤 H 𝓜 𝓖 𝓡))
-    (cited 𝓤 H (LogAfter 𝓤 H (𝓖 .A) (𝓜 .mem) (𝓡 .run)) 𝓜 𝓡 code.env log-after-def.name log-after-def.routine code.calls-host·attempts·log-after (log-after-thm.met 𝓤 H 𝓜 𝓖 𝓡))
-    (cited 𝓤 H (Both 𝓤 H (𝓖 .A) (𝓜 .mem) (𝓡 .run)) 𝓜 𝓡 code.env both-def.name both-def.routine code.calls-host·attempts·both (both-thm.met 𝓤 H 𝓜 𝓖 𝓡)))
+    (cited 𝓤 H (LogAfter 𝓤 H (𝓖 .A) (𝓜 .mem) (𝓡 .run)) 𝓜 𝓡 code.env log-after-def.name log-after-def.routine
+    code.calls-host·attempts·log-after (log-after-thm.met 𝓤 H 𝓜 𝓖 𝓡))
+    (cited 𝓤 H (Both 𝓤 H (𝓖 .A) (𝓜 .mem) (𝓡 .run)) 𝓜 𝓡 code.env both-def.name both-def.routine code.calls-host·attempts·both
+    (both-thm.met 𝓤 H 𝓜 𝓖 𝓡)))

@@ -20,8 +20,11 @@ abbrev start-of : tie.After-unused → tie.Start
 start-of u = u .before .before .before .before
 
 -- the place as the image has it
-found : (u : tie.After-unused) → let a = start-of u .args in u .before .place-answer .result ≡ placeAnswer (sectorsIn (length (a .image .now))) (a .sector) 0 EraseError
-found u = let a = start-of u .args in u .before .place-answer .ensures ∙ ap (λ (n : ℕ). placeAnswer n (a .sector) 0 EraseError) (u .before .before .sectors .ensures)
+found : (u : tie.After-unused) →
+    let a = start-of u .args in u .before .place-answer .result ≡ placeAnswer (sectorsIn (length (a .image .now))) (a .sector) 0 EraseError
+found u =
+    let a = start-of u .args in
+    u .before .place-answer .ensures ∙ ap (λ (n : ℕ). placeAnswer n (a .sector) 0 EraseError) (u .before .before .sectors .ensures)
 
 sectors-requires : tie.Need-sectors-requires
 sectors-requires c κs = search needs
@@ -40,7 +43,8 @@ returns c =
     let d = c .before in
     let u = d .before in
     let a = start-of u .args in
-    refused-step (a .image .now) (a .sector) (a .plan) 0 EraseError (erase (a .sector)) (u .before .place-answer .result) (found u) (u .unused .result) (u .unused .ensures)
+    refused-step (a .image .now) (a .sector) (a .plan) 0 EraseError (erase (a .sector)) (u .before .place-answer .result) (found u)
+    (u .unused .result) (u .unused .ensures)
     (sym (d .is-done .ensures) ∙ not-true (d .is-done .result) (c .if1 .taken))
 
 erase-requires : tie.Need-erase-requires
@@ -49,8 +53,12 @@ erase-requires c κs =
     let u = d .before in
     let a = start-of u .args in
     let let-in = sym (d .is-done .ensures) ∙ not-false (d .is-done .result) (c .before .if1 .left) in
-    let fits = admitted (u .before .before .sectors .result) (a .sector) 0 EraseError refl (sym (ap isDone (u .before .place-answer .ensures)) ∙ let-in) in
-    (omega (arith, fits .0, sectors-fit (length (a .image .now)), u .before .before .sectors .ensures), omega (arith, ap (λ (x : Used). x .erased) (u .unused .ensures)))
+    let fits =
+    admitted (u .before .before .sectors .result) (a .sector) 0 EraseError refl
+    (sym (ap isDone (u .before .place-answer .ensures)) ∙ let-in) in (
+      omega (arith, fits .0, sectors-fit (length (a .image .now)), u .before .before .sectors .ensures),
+      omega (arith, ap (λ (x : Used). x .erased) (u .unused .ensures)),
+    )
 
 same-length : tie.Need-same-length
 same-length c = search needs
@@ -61,8 +69,10 @@ returns-2 c =
     let d = p .before .before .before in
     let u = d .before in
     let a = start-of u .args in
-    made-step (a .image .now) (a .sector) (a .plan) 0 EraseError (erase (a .sector)) (u .before .place-answer .result) (found u) (u .unused .result) (u .unused .ensures)
-    (sym (d .is-done .ensures) ∙ not-false (d .is-done .result) (p .before .before .if1 .left)) (p .erase .result) (p .erase .last .0) (p .erase .ensures)
+    made-step (a .image .now) (a .sector) (a .plan) 0 EraseError (erase (a .sector)) (u .before .place-answer .result) (found u)
+    (u .unused .result) (u .unused .ensures)
+    (sym (d .is-done .ensures) ∙ not-false (d .is-done .result) (p .before .before .if1 .left)) (p .erase .result) (p .erase .last .0)
+    (p .erase .ensures)
 
 pub erase-by-value-spec : {M : Type 1} → statement M
 erase-by-value-spec =

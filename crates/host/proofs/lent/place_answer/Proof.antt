@@ -15,11 +15,15 @@ returns-2 c = let a = c .before .before .args in rw (ne-eqb (a .n) 0 (λ e. omeg
 
 returns-3 : tie.Need-returns-3
 unfolding placeAnswer
-returns-3 c = let a = c .before .before .before .args in rw (ne-eqb (a .n) 0 (λ e. omega arith), lt-ltb (a .sector) (a .n) (omega arith), le-ltb (a .slot) 256 (omega arith))
+returns-3 c =
+    let a = c .before .before .before .args in
+    rw (ne-eqb (a .n) 0 (λ e. omega arith), lt-ltb (a .sector) (a .n) (omega arith), le-ltb (a .slot) 256 (omega arith))
 
 returns-4 : tie.Need-returns-4
 unfolding placeAnswer
-returns-4 c = let a = c .before .before .before .args in rw (ne-eqb (a .n) 0 (λ e. omega arith), lt-ltb (a .sector) (a .n) (omega arith), lt-ltb (a .slot) 256 (omega arith))
+returns-4 c =
+    let a = c .before .before .before .args in
+    rw (ne-eqb (a .n) 0 (λ e. omega arith), lt-ltb (a .sector) (a .n) (omega arith), lt-ltb (a .slot) 256 (omega arith))
 
 pub place-answer-spec : {M : Type 1} → statement M
 place-answer-spec = tie.close (tie.spec returns returns-2 returns-3 returns-4)

@@ -28,7 +28,9 @@ abbrev Rs : List RattleType
 Rs = usize ∷ Array u8 16 ∷ []
 
 abbrev job : Lending step Rs
-job = sector-call Rs (uint-single w64, (array-single u8 (uint-single w8) 16, tt)) callee.name (λ (ys : List ℕ) (sector : ℕ) (h : Plan) (t : Denots Rs). programOf ys sector h (t .0) (t .1 .0))
+job =
+    sector-call Rs (uint-single w64, (array-single u8 (uint-single w8) 16, tt)) callee.name
+    (λ (ys : List ℕ) (sector : ℕ) (h : Plan) (t : Denots Rs). programOf ys sector h (t .0) (t .1 .0))
 
 pub program-spec : {M : Type 1} → stated.statement M
 unfolding code.routine tablesOf
@@ -36,5 +38,6 @@ program-spec 𝓤 H 𝓜 𝓖 𝓡 =
     entered 𝓤 H (tripleOf 𝓤 H (𝓖 .A) program.signature (program.spec 𝓤 H (𝓖 .A) (𝓜 .mem) (𝓡 .run)))
     (tables 𝓤 H 𝓜 𝓡 code.env .C) (tables 𝓤 H 𝓜 𝓡 code.env .Λ) key.name code.function (code.unfolded 𝓤 H 𝓜 𝓡)
     (meets step usize (Array u8 16) job 𝓤 H (𝓖 .A) (givenOf 𝓤 H 𝓜 𝓖) (tablesOf 𝓤 H 𝓜 (tables 𝓤 H 𝓜 𝓡 code.env))
-    (cited 𝓤 H (Called step Rs job 𝓤 H (𝓖 .A)) 𝓜 𝓡 code.env callee.name callee.routine code.calls-host·lent·program-by-value (callee-met.met 𝓤 H 𝓜 𝓖 𝓡))
+    (cited 𝓤 H (Called step Rs job 𝓤 H (𝓖 .A)) 𝓜 𝓡 code.env callee.name callee.routine code.calls-host·lent·program-by-value
+    (callee-met.met 𝓤 H 𝓜 𝓖 𝓡))
     (cited 𝓤 H (Read step 𝓤 H (𝓖 .A)) 𝓜 𝓡 code.env reader.name reader.routine code.calls-host·lent·plan-left (reader-met.met 𝓤 H 𝓜 𝓖 𝓡)))

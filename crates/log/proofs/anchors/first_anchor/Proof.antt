@@ -68,7 +68,9 @@ returns c = λ cut.
     let d = c .before in
     let w = d .before .before .before in
     let a = start-of w .args in
-    rw (first-stopped (a .new) (a .sectors) (outcome w cut) (told w cut false (sym (d .is-done .ensures) ∙ not-true (d .is-done .result) (c .if1 .taken))))
+    rw
+    (first-stopped (a .new) (a .sectors) (outcome w cut)
+    (told w cut false (sym (d .is-done .ensures) ∙ not-true (d .is-done .result) (c .if1 .taken))))
     (shown w cut)
 
 none-requires : tie.Need-none-requires
@@ -120,9 +122,17 @@ returns-2 c = λ cut.
     let decision : d .anchor-decision .result ≡ anchorDecision none true (a .new) =
     d .anchor-decision .ensures ∙ ap (λ (x : Raw). anchorDecision (record { some = false; raw = x }) true (a .new)) (z .none .ensures) in
     let same : performed (whenActive (w .format-with .result .log .state) (d .anchor-decision .result)) (a .sectors) (w .format-with .result .log)
-    (record { image = w .format-with .last .0; plan = w .format-with .result .plan; programmed = w .format-with .result .programmed; erased = w .format-with .result .erased; cut = o .flash .cut })
+    (record {
+      image = w .format-with .last .0;
+      plan = w .format-with .result .plan;
+      programmed = w .format-with .result .programmed;
+      erased = w .format-with .result .erased;
+      cut = o .flash .cut;
+    })
     ≡ performed (whenActive (o .log .state) (anchorDecision none true (a .new))) (a .sectors) (o .log) (o .flash) =
-    λ i. performed (whenActive (e i .log .state) (decision i)) (a .sectors) (e i .log) (record { image = left i; plan = e i .plan; programmed = e i .programmed; erased = e i .erased; cut = o .flash .cut }) in
+    λ i.
+    performed (whenActive (e i .log .state) (decision i)) (a .sectors) (e i .log)
+    (record { image = left i; plan = e i .plan; programmed = e i .programmed; erased = e i .erased; cut = o .flash .cut }) in
     rw (first-decided (a .new) (a .sectors) o (told w cut true (formed l)) (empty w (formed l) cut))
     (subst (λ (x : Outcome). ShowsDone x (p .perform .result) (p .perform .last .0)) same (p .perform .ensures (o .flash .cut)))
 

@@ -10,7 +10,8 @@ use Rattle.log.proofs.anchors.is_first.Statement.{statement}
 use Rattle.log.proofs.anchors.is_first.Tie as tie
 
 -- on an Unformatted log, by whether the call was let in
-by : (d : tie.After-is-done) (b : Bool) → d .is-done .result ≡ b → let a = d .before .before .before .args in (b && isFirst (a .new)) ≡ opensLog (a .answer) (a .state) (a .new)
+by : (d : tie.After-is-done) (b : Bool) → d .is-done .result ≡ b →
+    let a = d .before .before .before .args in (b && isFirst (a .new)) ≡ opensLog (a .answer) (a .state) (a .new)
 by d b e =
     let a = d .before .before .before .args in
     ap (λ (x : Bool). x && isFirst (a .new)) (sym e ∙ d .is-done .ensures)

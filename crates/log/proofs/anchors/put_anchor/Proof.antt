@@ -29,11 +29,13 @@ abbrev start-of : tie.After-enter → tie.Start
 start-of e = e .before .before .before
 
 -- what the call found
-is-entry : (e : tie.After-enter) → let a = start-of e .args in e .enter .result ≡ entryOf (sectorsIn (length (a .image .now))) (a .log) true anchorTag 0
+is-entry : (e : tie.After-enter) →
+    let a = start-of e .args in e .enter .result ≡ entryOf (sectorsIn (length (a .image .now))) (a .log) true anchorTag 0
 is-entry e = let a = start-of e .args in e .enter .ensures ∙ ap (λ (n : ℕ). entryOf n (a .log) true anchorTag 0) (e .before .sectors .ensures)
 
 -- whether it brings the first anchor
-opens : (f : tie.After-is-first) (b : Bool) → f .is-first .result ≡ b → let e = f .before .before in opensLog (e .enter .result .answer) (start-of e .args .log .state) (start-of e .args .new) ≡ b
+opens : (f : tie.After-is-first) (b : Bool) → f .is-first .result ≡ b →
+    let e = f .before .before in opensLog (e .enter .result .answer) (start-of e .args .log .state) (start-of e .args .new) ≡ b
 opens f b h = sym (f .is-first .ensures) ∙ h
 
 sectors-requires : tie.Need-sectors-requires
@@ -77,7 +79,8 @@ returns c =
     let u = f .before in
     let e = u .before in
     let a = start-of e .args in
-    let first : (n : ℕ) (used : Used) → Outcome = λ (n : ℕ) (used : Used). anchoredFirst (a .new) n (formatted [] n (a .log) (flashWith (a .image .now) used false)) in
+    let first : (n : ℕ) (used : Used) → Outcome =
+    λ (n : ℕ) (used : Used). anchoredFirst (a .new) n (formatted [] n (a .log) (flashWith (a .image .now) used false)) in
     let same : first (e .before .sectors .result) (u .unused .result) ≡ putAnchorOf (a .image .now) (a .log) (a .plan) (a .new) =
     (λ i. first (e .before .sectors .ensures i) (u .unused .ensures i))
     ∙ sym (as-first (a .image .now) (a .log) (a .plan) (a .new) (e .enter .result) (is-entry e) (opens f true (p .before .before .if1 .taken))) in
@@ -94,8 +97,11 @@ perform-requires c κs =
     let s = start-of e in
     let a = s .args in
     let x = e .enter .result in
-    call-ready (a .image .now) (a .log) (a .plan) true anchorTag 0 x (is-entry e) (λ (held : OptRaw) (room : Bool). anchorDecision held room (a .new)) (e .before .sectors .result) (u .unused .result) (d .anchor-decision .result)
-    (e .before .sectors .ensures) (u .unused .ensures) (d .anchor-decision .ensures) (whole-log (a .log) (s .good .1 .0)) (anchor-keyed (x .held) (x .room) (a .new))
+    call-ready (a .image .now) (a .log) (a .plan) true anchorTag 0 x (is-entry e)
+    (λ (held : OptRaw) (room : Bool). anchorDecision held room (a .new)) (e .before .sectors .result) (u .unused .result)
+    (d .anchor-decision .result)
+    (e .before .sectors .ensures) (u .unused .ensures) (d .anchor-decision .ensures) (whole-log (a .log) (s .good .1 .0))
+    (anchor-keyed (x .held) (x .room) (a .new))
 
 same-length-2 : tie.Need-same-length-2
 same-length-2 c = search needs

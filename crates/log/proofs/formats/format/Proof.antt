@@ -38,31 +38,45 @@ abbrev call : tie.Start → ℕ → Log → Flash → Outcome
 call s n l f = formatOn (l .state) (seedTable (s .args .seeds) (s .args .count)) n l f
 
 -- what the call found
-is-entry : (e : tie.After-enter) → let a = start-of e .args in e .enter .result ≡ entryOf (sectorsIn (length (a .image .now))) (a .log) (seedsKnown (a .seeds) (a .count)) counterTag 0
+is-entry : (e : tie.After-enter) →
+    let a = start-of e .args in
+    e .enter .result ≡ entryOf (sectorsIn (length (a .image .now))) (a .log) (seedsKnown (a .seeds) (a .count)) counterTag 0
 is-entry e =
     let a = start-of e .args in
-    e .enter .ensures ∙ ap₂ (λ (n : ℕ) (known : Bool). entryOf n (a .log) known counterTag 0) (e .before .before .sectors .ensures) (e .before .seeds-known .ensures)
+    e .enter .ensures
+    ∙ ap₂ (λ (n : ℕ) (known : Bool). entryOf n (a .log) known counterTag 0) (e .before .before .sectors .ensures)
+    (e .before .seeds-known .ensures)
 
 done-as : (l : tie.Else1) → isDone (l .before .before .before .enter .result .answer) ≡ true
 done-as l = let d = l .before in sym (d .is-done .ensures) ∙ not-false (d .is-done .result) (l .if1 .left)
 
 -- a call that was let in, by the state of the log
 by-state : (l : tie.Else1) (s : State) → let e = l .before .before .before in let a = start-of e .args in a .log .state ≡ s
-    → formatOf (a .image .now) (a .log) (a .plan) (a .seeds) (a .count) ≡ formatOn s (seedTable (a .seeds) (a .count)) (sectorsIn (length (a .image .now))) (a .log) (flashOf (a .image .now) (a .plan))
+    → formatOf (a .image .now) (a .log) (a .plan) (a .seeds) (a .count)
+    ≡ formatOn s (seedTable (a .seeds) (a .count)) (sectorsIn (length (a .image .now))) (a .log) (flashOf (a .image .now) (a .plan))
 unfolding formatOf
 by-state l s h =
     let e = l .before .before .before in
     let a = start-of e .args in
-    entered-in (a .image .now) (a .log) (a .plan) (seedsKnown (a .seeds) (a .count)) counterTag 0 (e .enter .result) (is-entry e) (call (start-of e)) (done-as l)
-    ∙ ap (λ (x : State). formatOn x (seedTable (a .seeds) (a .count)) (sectorsIn (length (a .image .now))) (a .log) (flashOf (a .image .now) (a .plan))) h
+    entered-in (a .image .now) (a .log) (a .plan) (seedsKnown (a .seeds) (a .count)) counterTag 0 (e .enter .result) (is-entry e)
+    (call (start-of e)) (done-as l)
+    ∙ ap
+    (λ (x : State).
+    formatOn x (seedTable (a .seeds) (a .count)) (sectorsIn (length (a .image .now))) (a .log)
+    (flashOf (a .image .now) (a .plan)))
+    h
 
 -- the tests that it passed
-tests : (l : tie.Else1) → let a = start-of (l .before .before .before) .args in let n = sectorsIn (length (a .image .now)) in (n ≡ 0 → ⊥) × (seedsKnown (a .seeds) (a .count) ≡ true)
+tests : (l : tie.Else1) →
+    let a = start-of (l .before .before .before) .args in
+    let n = sectorsIn (length (a .image .now)) in (n ≡ 0 → ⊥) × (seedsKnown (a .seeds) (a .count) ≡ true)
 tests l =
     let e = l .before .before .before in
     let a = start-of e .args in
     let n = sectorsIn (length (a .image .now)) in
-    let p = let-in-by n (a .log) (seedsKnown (a .seeds) (a .count)) (entry-in n (a .log) (seedsKnown (a .seeds) (a .count)) counterTag 0 (e .enter .result) (is-entry e) (done-as l)) in
+    let p =
+    let-in-by n (a .log) (seedsKnown (a .seeds) (a .count))
+    (entry-in n (a .log) (seedsKnown (a .seeds) (a .count)) counterTag 0 (e .enter .result) (is-entry e) (done-as l)) in
     (p .0, p .2)
 
 sectors-requires : tie.Need-sectors-requires
@@ -90,7 +104,9 @@ returns c =
     let u = d .before in
     let e = u .before in
     let a = start-of e .args in
-    rw (entered-refused (a .image .now) (a .log) (a .plan) (seedsKnown (a .seeds) (a .count)) counterTag 0 (e .enter .result) (is-entry e) (call (start-of e)) (sym (d .is-done .ensures) ∙ not-true (d .is-done .result) (c .before .if1 .taken)))
+    rw
+    (entered-refused (a .image .now) (a .log) (a .plan) (seedsKnown (a .seeds) (a .count)) counterTag 0 (e .enter .result) (is-entry e)
+    (call (start-of e)) (sym (d .is-done .ensures) ∙ not-true (d .is-done .result) (c .before .if1 .taken)))
     (record { answered = c .answered .ensures ∙ ap (answeredOf (e .enter .result .answer) 0 (a .log)) (u .unused .ensures); left = refl })
 
 enum-told : tie.Need-enum-told
@@ -113,8 +129,12 @@ format-with-requires c κs =
     let n = sectorsIn (length (a .image .now)) in
     let some : 0 < n = let z = tests l .0 in omega (arith, z) in
     let full = filled (seedTable (a .seeds) (a .count)) (table-most (a .seeds) (a .count) (known-few (a .seeds) (a .count) (tests l .1))) in
-    rw (e .before .before .sectors .ensures, u .unused .ensures, t .seed-table .ensures)
-    (in-room (a .image .now) (a .log) (a .plan) (seedsKnown (a .seeds) (a .count)) counterTag 0 (e .enter .result) (is-entry e) (done-as l), m .enum-told .given .1, some, full)
+    rw (e .before .before .sectors .ensures, u .unused .ensures, t .seed-table .ensures) (
+      in-room (a .image .now) (a .log) (a .plan) (seedsKnown (a .seeds) (a .count)) counterTag 0 (e .enter .result) (is-entry e) (done-as l),
+      m .enum-told .given .1,
+      some,
+      full,
+    )
 
 enum-told-2 : tie.Need-enum-told-2
 enum-told-2 c = search needs
@@ -140,10 +160,13 @@ returns-2 c =
     let u = l .before .before in
     let e = u .before in
     let a = start-of e .args in
-    let made : (n : ℕ) (used : Used) (x : Seeded) → Outcome = λ (n : ℕ) (used : Used) (x : Seeded). formatted (take (x .count) (x .table)) n (a .log) (flashWith (a .image .now) used false) in
-    let same : made (e .before .before .sectors .result) (u .unused .result) (t .seed-table .result) ≡ formatOf (a .image .now) (a .log) (a .plan) (a .seeds) (a .count) =
+    let made : (n : ℕ) (used : Used) (x : Seeded) → Outcome =
+    λ (n : ℕ) (used : Used) (x : Seeded). formatted (take (x .count) (x .table)) n (a .log) (flashWith (a .image .now) used false) in
+    let same : made (e .before .before .sectors .result) (u .unused .result) (t .seed-table .result) ≡ formatOf (a .image .now) (a .log)
+    (a .plan) (a .seeds) (a .count) =
     (λ i. made (e .before .before .sectors .ensures i) (u .unused .ensures i) (t .seed-table .ensures i))
-    ∙ ap (λ (x : List Raw). formatted x (sectorsIn (length (a .image .now))) (a .log) (flashOf (a .image .now) (a .plan))) (places-take (seedTable (a .seeds) (a .count)))
+    ∙ ap (λ (x : List Raw). formatted x (sectorsIn (length (a .image .now))) (a .log) (flashOf (a .image .now) (a .plan)))
+    (places-take (seedTable (a .seeds) (a .count)))
     ∙ sym (by-state l _ (m .enum-told .given .1)) in
     subst (λ (o : Outcome). ShowsDone o (p .format-with .result) (p .format-with .last .0)) same (p .format-with .ensures false)
 

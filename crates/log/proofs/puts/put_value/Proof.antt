@@ -20,8 +20,13 @@ abbrev start-of : tie.After-enter → tie.Start
 start-of e = e .before .before .before .before
 
 -- what the call found
-is-entry : (e : tie.After-enter) → let a = start-of e .args in e .enter .result ≡ entryOf (sectorsIn (length (a .image .now))) (a .log) (isValue (a .id)) valueTag (a .id)
-is-entry e = let a = start-of e .args in e .enter .ensures ∙ ap₂ (λ (n : ℕ) (known : Bool). entryOf n (a .log) known valueTag (a .id)) (e .before .before .sectors .ensures) (e .before .is-value .ensures)
+is-entry : (e : tie.After-enter) →
+    let a = start-of e .args in e .enter .result ≡ entryOf (sectorsIn (length (a .image .now))) (a .log) (isValue (a .id)) valueTag (a .id)
+is-entry e =
+    let a = start-of e .args in
+    e .enter .ensures
+    ∙ ap₂ (λ (n : ℕ) (known : Bool). entryOf n (a .log) known valueTag (a .id)) (e .before .before .sectors .ensures)
+    (e .before .is-value .ensures)
 
 sectors-requires : tie.Need-sectors-requires
 sectors-requires c κs = search needs
@@ -45,8 +50,11 @@ perform-requires c κs =
     let s = start-of e in
     let a = s .args in
     let x = e .enter .result in
-    call-ready (a .image .now) (a .log) (a .plan) (isValue (a .id)) valueTag (a .id) x (is-entry e) (λ (held : OptRaw) (room : Bool). valueDecision held room (a .id) (a .new)) (e .before .before .sectors .result) (c .unused .result) (d .value-decision .result)
-    (e .before .before .sectors .ensures) (c .unused .ensures) (d .value-decision .ensures) (whole-log (a .log) (s .good .1 .0)) (value-keyed (x .held) (x .room) (a .id) (a .new))
+    call-ready (a .image .now) (a .log) (a .plan) (isValue (a .id)) valueTag (a .id) x (is-entry e)
+    (λ (held : OptRaw) (room : Bool). valueDecision held room (a .id) (a .new)) (e .before .before .sectors .result) (c .unused .result)
+    (d .value-decision .result)
+    (e .before .before .sectors .ensures) (c .unused .ensures) (d .value-decision .ensures) (whole-log (a .log) (s .good .1 .0))
+    (value-keyed (x .held) (x .room) (a .id) (a .new))
 
 same-length : tie.Need-same-length
 same-length c = search needs
@@ -59,8 +67,11 @@ returns c =
     let d = u .before .before in
     let e = d .before .before in
     let a = start-of e .args in
-    call-meets (a .image .now) (a .log) (a .plan) (isValue (a .id)) valueTag (a .id) (e .enter .result) (is-entry e) (λ (held : OptRaw) (room : Bool). valueDecision held room (a .id) (a .new)) (e .before .before .sectors .result) (u .unused .result) (d .value-decision .result)
-    (e .before .before .sectors .ensures) (u .unused .ensures) (d .value-decision .ensures) (p .perform .result) (p .perform .last .0) (p .perform .ensures)
+    call-meets (a .image .now) (a .log) (a .plan) (isValue (a .id)) valueTag (a .id) (e .enter .result) (is-entry e)
+    (λ (held : OptRaw) (room : Bool). valueDecision held room (a .id) (a .new)) (e .before .before .sectors .result) (u .unused .result)
+    (d .value-decision .result)
+    (e .before .before .sectors .ensures) (u .unused .ensures) (d .value-decision .ensures) (p .perform .result) (p .perform .last .0)
+    (p .perform .ensures)
 
 pub put-value-spec : {M : Type 1} → statement M
 put-value-spec =

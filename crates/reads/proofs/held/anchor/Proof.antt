@@ -35,8 +35,12 @@ module _ (d : tie.After-is-done) where
   unfolding anchorOf
   by = read-by anchorBy Refused (start-of .args .log) true anchorTag 0 entry is-entry
 
-let-in : (l : tie.Else1) (s : State) → start-of (l .before) .args .log .state ≡ s → anchorBy s (entry (l .before) .held) ≡ anchorOf (start-of (l .before) .args .log)
-let-in l s e = let d = l .before in ap (λ (x : State). anchorBy x (entry d .held)) (sym e) ∙ by d (sym (d .is-done .ensures) ∙ not-false (d .is-done .result) (l .if1 .left))
+let-in : (l : tie.Else1) (s : State) → start-of (l .before) .args .log .state ≡ s
+    → anchorBy s (entry (l .before) .held) ≡ anchorOf (start-of (l .before) .args .log)
+let-in l s e =
+    let d = l .before in
+    ap (λ (x : State). anchorBy x (entry d .held)) (sym e)
+    ∙ by d (sym (d .is-done .ensures) ∙ not-false (d .is-done .result) (l .if1 .left))
 
 enter-requires : tie.Need-enter-requires
 enter-requires c κs = search needs
@@ -62,7 +66,8 @@ returns-2 c =
     let m = c .before .before in
     let l = m .before .before .before in
     let held = entry (l .before) .held in
-    ap (λ (b : Bool). pick b (Held (anchorIn (held .raw .body))) Nothing) (sym (not-true (held .some) (c .if2 .taken))) ∙ let-in l _ (m .enum-told3 .given .1)
+    ap (λ (b : Bool). pick b (Held (anchorIn (held .raw .body))) Nothing) (sym (not-true (held .some) (c .if2 .taken)))
+    ∙ let-in l _ (m .enum-told3 .given .1)
 
 anchor-of-requires : tie.Need-anchor-of-requires
 anchor-of-requires c κs = search needs

@@ -26,18 +26,27 @@ module _ (d : tie.After-is-done) where
   is-entry : entry ≡ entryOf 16 (start-of .args .log) (isCredential (start-of .args .credential)) counterTag (start-of .args .credential)
   is-entry =
       d .before .enter .ensures
-      ∙ ap (λ (known : Bool). entryOf 16 (start-of .args .log) known counterTag (start-of .args .credential)) (d .before .before .is-credential .ensures)
+      ∙ ap (λ (known : Bool). entryOf 16 (start-of .args .log) known counterTag (start-of .args .credential))
+      (d .before .before .is-credential .ensures)
 
   refused : isDone (entry .answer) ≡ false → Refused (entry .answer) ≡ getOf (start-of .args .log) (start-of .args .credential)
   unfolding getOf
-  refused = read-refused counterBy Refused (start-of .args .log) (isCredential (start-of .args .credential)) counterTag (start-of .args .credential) entry is-entry
+  refused =
+      read-refused counterBy Refused (start-of .args .log) (isCredential (start-of .args .credential)) counterTag
+      (start-of .args .credential) entry is-entry
 
   by : isDone (entry .answer) ≡ true → counterBy (start-of .args .log .state) (entry .held) ≡ getOf (start-of .args .log) (start-of .args .credential)
   unfolding getOf
-  by = read-by counterBy Refused (start-of .args .log) (isCredential (start-of .args .credential)) counterTag (start-of .args .credential) entry is-entry
+  by =
+      read-by counterBy Refused (start-of .args .log) (isCredential (start-of .args .credential)) counterTag (start-of .args .credential)
+      entry is-entry
 
-let-in : (l : tie.Else1) (s : State) → start-of (l .before) .args .log .state ≡ s → counterBy s (entry (l .before) .held) ≡ getOf (start-of (l .before) .args .log) (start-of (l .before) .args .credential)
-let-in l s e = let d = l .before in ap (λ (x : State). counterBy x (entry d .held)) (sym e) ∙ by d (sym (d .is-done .ensures) ∙ not-false (d .is-done .result) (l .if1 .left))
+let-in : (l : tie.Else1) (s : State) → start-of (l .before) .args .log .state ≡ s
+    → counterBy s (entry (l .before) .held) ≡ getOf (start-of (l .before) .args .log) (start-of (l .before) .args .credential)
+let-in l s e =
+    let d = l .before in
+    ap (λ (x : State). counterBy x (entry d .held)) (sym e)
+    ∙ by d (sym (d .is-done .ensures) ∙ not-false (d .is-done .result) (l .if1 .left))
 
 is-credential-requires : tie.Need-is-credential-requires
 is-credential-requires c κs = search needs
@@ -66,7 +75,8 @@ returns-2 c =
     let m = c .before .before in
     let l = m .before .before .before in
     let held = entry (l .before) .held in
-    ap (λ (b : Bool). pick b (Held (counterIn (held .raw .body))) Nothing) (sym (not-true (held .some) (c .if2 .taken))) ∙ let-in l _ (m .enum-told3 .given .1)
+    ap (λ (b : Bool). pick b (Held (counterIn (held .raw .body))) Nothing) (sym (not-true (held .some) (c .if2 .taken)))
+    ∙ let-in l _ (m .enum-told3 .given .1)
 
 counter-of-requires : tie.Need-counter-of-requires
 counter-of-requires c κs = search needs

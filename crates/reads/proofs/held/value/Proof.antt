@@ -36,8 +36,12 @@ module _ (d : tie.After-is-done) where
   unfolding valueOf
   by = read-by numberBy Refused (start-of .args .log) (isValue (start-of .args .id)) valueTag (start-of .args .id) entry is-entry
 
-let-in : (l : tie.Else1) (s : State) → start-of (l .before) .args .log .state ≡ s → numberBy s (entry (l .before) .held) ≡ valueOf (start-of (l .before) .args .log) (start-of (l .before) .args .id)
-let-in l s e = let d = l .before in ap (λ (x : State). numberBy x (entry d .held)) (sym e) ∙ by d (sym (d .is-done .ensures) ∙ not-false (d .is-done .result) (l .if1 .left))
+let-in : (l : tie.Else1) (s : State) → start-of (l .before) .args .log .state ≡ s
+    → numberBy s (entry (l .before) .held) ≡ valueOf (start-of (l .before) .args .log) (start-of (l .before) .args .id)
+let-in l s e =
+    let d = l .before in
+    ap (λ (x : State). numberBy x (entry d .held)) (sym e)
+    ∙ by d (sym (d .is-done .ensures) ∙ not-false (d .is-done .result) (l .if1 .left))
 
 is-value-requires : tie.Need-is-value-requires
 is-value-requires c κs = search needs
@@ -66,7 +70,8 @@ returns-2 c =
     let m = c .before .before in
     let l = m .before .before .before in
     let held = entry (l .before) .held in
-    ap (λ (b : Bool). pick b (Held (valueIn (held .raw .body))) Nothing) (sym (not-true (held .some) (c .if2 .taken))) ∙ let-in l _ (m .enum-told3 .given .1)
+    ap (λ (b : Bool). pick b (Held (valueIn (held .raw .body))) Nothing) (sym (not-true (held .some) (c .if2 .taken)))
+    ∙ let-in l _ (m .enum-told3 .given .1)
 
 value-of-requires : tie.Need-value-of-requires
 value-of-requires c κs = search needs

@@ -27,8 +27,12 @@ module _ (d : tie.After-is-done) where
   unfolding needsMigrationOf
   by = read-by migrationBy toldRefused (start-of .args .log) true anchorTag 0 entry (d .before .enter .ensures)
 
-let-in : (l : tie.Else1) (s : State) → start-of (l .before) .args .log .state ≡ s → migrationBy s (entry (l .before) .held) ≡ needsMigrationOf (start-of (l .before) .args .log)
-let-in l s e = let d = l .before in ap (λ (x : State). migrationBy x (entry d .held)) (sym e) ∙ by d (sym (d .is-done .ensures) ∙ not-false (d .is-done .result) (l .if1 .left))
+let-in : (l : tie.Else1) (s : State) → start-of (l .before) .args .log .state ≡ s
+    → migrationBy s (entry (l .before) .held) ≡ needsMigrationOf (start-of (l .before) .args .log)
+let-in l s e =
+    let d = l .before in
+    ap (λ (x : State). migrationBy x (entry d .held)) (sym e)
+    ∙ by d (sym (d .is-done .ensures) ∙ not-false (d .is-done .result) (l .if1 .left))
 
 enter-requires : tie.Need-enter-requires
 enter-requires c κs = search needs

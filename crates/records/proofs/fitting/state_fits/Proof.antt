@@ -18,12 +18,23 @@ returns-2 c = rw (c .before .before .before .state .given .1, lt-ltb _ _ (c .bef
 
 returns-3 : tie.Need-returns-3
 returns-3 c =
-    rw (c .before .before .before .before .state .given .1, lt-ltb _ _ (c .before .before .if1 .left), le-leb _ _ (c .before .if2 .left), lt-leb _ _ (c .if3 .taken))
+    rw (
+      c .before .before .before .before .state .given .1,
+      lt-ltb _ _ (c .before .before .if1 .left),
+      le-leb _ _ (c .before .if2 .left),
+      lt-leb _ _ (c .if3 .taken),
+    )
 
 returns-4 : tie.Need-returns-4
 returns-4 c =
     let h = c .before .before .before in
-    rw (h .before .before .state .given .1, lt-ltb _ _ (h .if1 .left), le-leb _ _ (c .before .before .if2 .left), le-leb _ _ (c .before .if3 .left), lt-ltb _ _ (c .if4 .taken))
+    rw (
+      h .before .before .state .given .1,
+      lt-ltb _ _ (h .if1 .left),
+      le-leb _ _ (c .before .before .if2 .left),
+      le-leb _ _ (c .before .if3 .left),
+      lt-ltb _ _ (c .if4 .taken),
+    )
 
 enum-told : tie.Need-enum-told
 enum-told c = search needs
@@ -34,7 +45,13 @@ enum-told-2 c = search needs
 returns-5 : tie.Need-returns-5
 returns-5 c =
     let h = c .before .before .before in
-    rw (h .before .before .state .given .1, lt-ltb _ _ (h .if1 .left), le-leb _ _ (c .before .before .if2 .left), le-leb _ _ (c .before .if3 .left), le-ltb _ _ (c .if4 .left))
+    rw (
+      h .before .before .state .given .1,
+      lt-ltb _ _ (h .if1 .left),
+      le-leb _ _ (c .before .before .if2 .left),
+      le-leb _ _ (c .before .if3 .left),
+      le-ltb _ _ (c .if4 .left),
+    )
 
 returns-6 : tie.Need-returns-6
 returns-6 c = rw (c .enum-told .given .1)

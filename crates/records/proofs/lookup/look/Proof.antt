@@ -32,7 +32,9 @@ returns-3 : tie.Need-returns-3
 returns-3 c =
     let a = c .before .before .before .before .before .before .before .args in
     let f = c .before .before in
-    c .misfit3 .ensures ∙ bad-state (a .sectors) (a .tag) (a .id) (a .log) (sym (f .state-fits .ensures) ∙ not-true (f .state-fits .result) (c .before .if3 .taken))
+    c .misfit3 .ensures
+    ∙ bad-state (a .sectors) (a .tag) (a .id) (a .log)
+    (sym (f .state-fits .ensures) ∙ not-true (f .state-fits .result) (c .before .if3 .taken))
 
 zeros-past-requires : tie.Need-zeros-past-requires
 zeros-past-requires c κs = search needs
@@ -44,7 +46,9 @@ returns-4 : tie.Need-returns-4
 returns-4 c =
     let a = c .before .before .before .before .before .before .before .before .before .args in
     let z = c .before .before in
-    c .misfit4 .ensures ∙ bad-places (a .sectors) (a .tag) (a .id) (a .log) (sym (z .zeros-past .ensures) ∙ not-true (z .zeros-past .result) (c .before .if4 .taken))
+    c .misfit4 .ensures
+    ∙ bad-places (a .sectors) (a .tag) (a .id) (a .log)
+    (sym (z .zeros-past .ensures) ∙ not-true (z .zeros-past .result) (c .before .if4 .taken))
 
 survey-requires : tie.Need-survey-requires
 survey-requires c κs = search needs

@@ -117,10 +117,18 @@ loop-again c =
     let a = t .before .before .before .args in (
       t .before .loop .inv .0,
       ⊎-elim
-          (λ w. rw (w .3, w .4) (hit s (more t) (here t) (omega arith) (g .before .if1 .left) (fresh j) (rw (eq-eqb (r .tag) (a .tag) (w .0 .taken), eq-eqb (r .id) (a .id) (w .2 .taken)))))
+          (λ w.
+          rw (w .3, w .4)
+          (hit s (more t) (here t) (omega arith) (g .before .if1 .left) (fresh j)
+          (rw (eq-eqb (r .tag) (a .tag) (w .0 .taken), eq-eqb (r .id) (a .id) (w .2 .taken)))))
           (⊎-elim
-          (λ w. rw (w .3, w .4) (miss s (more t) (here t) (omega arith) (g .before .if1 .left) (fresh j) (rw (eq-eqb (r .tag) (a .tag) (w .0 .taken), ne-eqb (r .id) (a .id) (w .2 .left)))))
-          (λ w. rw (w .1, w .2) (miss s (more t) (here t) (omega arith) (g .before .if1 .left) (fresh j) (rw (ne-eqb (r .tag) (a .tag) (w .0 .left))))))
+          (λ w.
+          rw (w .3, w .4)
+          (miss s (more t) (here t) (omega arith) (g .before .if1 .left) (fresh j)
+          (rw (eq-eqb (r .tag) (a .tag) (w .0 .taken), ne-eqb (r .id) (a .id) (w .2 .left)))))
+          (λ w.
+          rw (w .1, w .2)
+          (miss s (more t) (here t) (omega arith) (g .before .if1 .left) (fresh j) (rw (ne-eqb (r .tag) (a .tag) (w .0 .left))))))
           (c .if4 .came),
     )
 

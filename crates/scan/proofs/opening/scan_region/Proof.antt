@@ -32,7 +32,8 @@ scan-sector-requires c κs =
     let a = ch .before .before .before .args in
     let n = ch .before .sectors .result in
     let wins : Wins (headerAt (a .version) (a .image .now)) n (c .before .sector .given .0 .0) (c .before .sector .given .0 .1 .0) =
-    subst (Right (headerAt (a .version) (a .image .now)) n) (sym (ch .choose .ensures) ∙ c .before .sector .given .1) (chosen-right (headerAt (a .version) (a .image .now)) n) in
+    subst (Right (headerAt (a .version) (a .image .now)) n) (sym (ch .choose .ensures) ∙ c .before .sector .given .1)
+    (chosen-right (headerAt (a .version) (a .image .now)) n) in
     let fit = sectors-fit (length (a .image .now)) in
     (omega (arith, wins .within, fit .0, ch .before .sectors .ensures), omega (arith, wins .within, fit .1, ch .before .sectors .ensures))
 
@@ -42,7 +43,10 @@ returns c =
     let ch = c .before .before .before in
     let a = ch .before .before .before .args in
     rw (c .empty-table .ensures)
-    (ap (regionChosen (a .image .now)) (sym (c .before .enum-told .given .1) ∙ ch .choose .ensures ∙ ap (λ (n : ℕ). chosenOf (a .version) n (a .image .now)) (ch .before .sectors .ensures)))
+    (ap (regionChosen (a .image .now))
+    (sym (c .before .enum-told .given .1)
+    ∙ ch .choose .ensures
+    ∙ ap (λ (n : ℕ). chosenOf (a .version) n (a .image .now)) (ch .before .sectors .ensures)))
 
 returns-2 : tie.Need-returns-2
 unfolding scanOf
@@ -50,7 +54,10 @@ returns-2 c =
     let ch = c .before .before .before .before in
     let a = ch .before .before .before .args in
     c .scan-sector .ensures
-    ∙ ap (regionChosen (a .image .now)) (sym (c .before .before .sector .given .1) ∙ ch .choose .ensures ∙ ap (λ (n : ℕ). chosenOf (a .version) n (a .image .now)) (ch .before .sectors .ensures))
+    ∙ ap (regionChosen (a .image .now))
+    (sym (c .before .before .sector .given .1)
+    ∙ ch .choose .ensures
+    ∙ ap (λ (n : ℕ). chosenOf (a .version) n (a .image .now)) (ch .before .sectors .ensures))
 
 pub scan-region-spec : {M : Type 1} → statement M
 scan-region-spec =

@@ -59,7 +59,9 @@ turn f = f .before .before .before .before .before .before .before .before
 abbrev raw-of : tie.After-find Inv-loop μ-loop → Raw
 raw-of f = f .before .before .before .before .before .before .decode-from .result .raw
 
-abbrev held : (f : tie.After-find Inv-loop μ-loop) → let l = at-loop (turn f) in Scanning (seq-of l) (slots-of l) (l .loop .table) (l .loop .tags) (l .loop .ids) (l .loop .count) (l .loop .head) (l .loop .k)
+abbrev held : (f : tie.After-find Inv-loop μ-loop) →
+    let l = at-loop (turn f) in
+    Scanning (seq-of l) (slots-of l) (l .loop .table) (l .loop .tags) (l .loop .ids) (l .loop .count) (l .loop .head) (l .loop .k)
 held f = at-loop (turn f) .loop .inv .1
 
 going : (f : tie.After-find Inv-loop μ-loop) → at-loop (turn f) .loop .k < 256
@@ -78,11 +80,14 @@ record-is f =
 place-is : (f : tie.After-find Inv-loop μ-loop) → f .find .result ≡ placeOf (raw-of f .tag) (raw-of f .id) (held f .found)
 place-is f =
     let l = at-loop (turn f) in
-    f .find .ensures ∙ place-found (seq-of l) (slots-of l) (l .loop .table) (l .loop .tags) (l .loop .ids) (l .loop .count) (l .loop .head) (l .loop .k) (held f) (going f) (raw-of f .tag) (raw-of f .id)
+    f .find .ensures
+    ∙ place-found (seq-of l) (slots-of l) (l .loop .table) (l .loop .tags) (l .loop .ids) (l .loop .count) (l .loop .head) (l .loop .k)
+    (held f) (going f) (raw-of f .tag) (raw-of f .id)
 
 -- the record that stands there
 there-is : (f : tie.After-find Inv-loop μ-loop) → f .find .result < at-loop (turn f) .loop .count
-    → getD (at-loop (turn f) .loop .table) (f .find .result) nowhere ≡ getD (held f .found) (placeOf (raw-of f .tag) (raw-of f .id) (held f .found)) nowhere
+    → getD (at-loop (turn f) .loop .table) (f .find .result) nowhere
+    ≡ getD (held f .found) (placeOf (raw-of f .tag) (raw-of f .id) (held f .found)) nowhere
 there-is f h =
     ap₂ (λ (l : List Raw) (n : ℕ). getD l n nowhere) (held f .standing) (place-is f)
     ∙ places-get (held f .found) (placeOf (raw-of f .tag) (raw-of f .id) (held f .found)) nowhere (omega (arith, held f .size, place-is f))
@@ -127,8 +132,11 @@ loop-less c = omega arith
 loop-again : tie.Need-loop-again Inv-loop μ-loop
 loop-again c =
     let g = c .before in
-    let l = at-loop g .loop in
-    (l .inv .0, pass (seq-of (at-loop g)) (slots-of (at-loop g)) (l .table) (l .tags) (l .ids) (l .count) (l .head) (l .k) (l .inv .1) (omega arith) (sym (erased-is g) ∙ c .if1 .taken))
+    let l = at-loop g .loop in (
+      l .inv .0,
+      pass (seq-of (at-loop g)) (slots-of (at-loop g)) (l .table) (l .tags) (l .ids) (l .count) (l .head) (l .k) (l .inv .1) (omega arith)
+          (sym (erased-is g) ∙ c .if1 .taken),
+    )
 
 cast-head : tie.Need-cast-head Inv-loop μ-loop
 cast-head c = omega arith
@@ -145,7 +153,8 @@ loop-again-2 c =
     let g = d .before .before in
     let l = at-loop g .loop in (
       l .inv .0,
-      skip (seq-of (at-loop g)) (slots-of (at-loop g)) (l .table) (l .tags) (l .ids) (l .count) (l .head) (l .k) (l .inv .1) (omega arith) (sym (erased-is g) ∙ d .before .if1 .left)
+      skip (seq-of (at-loop g)) (slots-of (at-loop g)) (l .table) (l .tags) (l .ids) (l .count) (l .head) (l .k) (l .inv .1) (omega arith)
+          (sym (erased-is g) ∙ d .before .if1 .left)
           (ap (λ (o : OptRaw). o .some) (sym (decoded-is d)) ∙ not-true (d .decode-from .result .some) (c .if2 .taken)),
     )
 
@@ -179,8 +188,15 @@ loop-less-3 c = omega arith
 loop-again-3 : tie.Need-loop-again-3 Inv-loop μ-loop
 loop-again-3 c =
     let f = c .before .before .before .before in
-    let l = at-loop (turn f) in
-    (l .loop .inv .0, rw (place-is f) (replace (seq-of l) (slots-of l) (l .loop .table) (l .loop .tags) (l .loop .ids) (l .loop .count) (l .loop .head) (l .loop .k) (held f) (going f) (used f) (raw-of f) (record-is f) (omega (arith, place-is f, c .before .before .before .if3 .taken)) (ap (falls (raw-of f)) (sym (there-is f (c .before .before .before .if3 .taken))) ∙ not-true (falls (raw-of f) (getD (l .loop .table) (f .find .result) nowhere)) (sym (c .before .replaces .ensures) ∙ c .if4 .taken))))
+    let l = at-loop (turn f) in (
+      l .loop .inv .0,
+      rw (place-is f)
+          (replace (seq-of l) (slots-of l) (l .loop .table) (l .loop .tags) (l .loop .ids) (l .loop .count) (l .loop .head) (l .loop .k)
+          (held f) (going f) (used f) (raw-of f) (record-is f) (omega (arith, place-is f, c .before .before .before .if3 .taken))
+          (ap (falls (raw-of f)) (sym (there-is f (c .before .before .before .if3 .taken)))
+          ∙ not-true (falls (raw-of f) (getD (l .loop .table) (f .find .result) nowhere))
+          (sym (c .before .replaces .ensures) ∙ c .if4 .taken))),
+    )
 
 loop-less-4 : tie.Need-loop-less-4 Inv-loop μ-loop
 loop-less-4 c = omega arith
@@ -188,8 +204,14 @@ loop-less-4 c = omega arith
 loop-again-4 : tie.Need-loop-again-4 Inv-loop μ-loop
 loop-again-4 c =
     let f = c .before .before .before .before in
-    let l = at-loop (turn f) in
-    (l .loop .inv .0, keep (seq-of l) (slots-of l) (l .loop .table) (l .loop .tags) (l .loop .ids) (l .loop .count) (l .loop .head) (l .loop .k) (held f) (going f) (used f) (raw-of f) (record-is f) (omega (arith, place-is f, c .before .before .before .if3 .taken)) (ap (falls (raw-of f)) (sym (there-is f (c .before .before .before .if3 .taken))) ∙ not-false (falls (raw-of f) (getD (l .loop .table) (f .find .result) nowhere)) (sym (c .before .replaces .ensures) ∙ c .if4 .left)))
+    let l = at-loop (turn f) in (
+      l .loop .inv .0,
+      keep (seq-of l) (slots-of l) (l .loop .table) (l .loop .tags) (l .loop .ids) (l .loop .count) (l .loop .head) (l .loop .k) (held f)
+          (going f) (used f) (raw-of f) (record-is f) (omega (arith, place-is f, c .before .before .before .if3 .taken))
+          (ap (falls (raw-of f)) (sym (there-is f (c .before .before .before .if3 .taken)))
+          ∙ not-false (falls (raw-of f) (getD (l .loop .table) (f .find .result) nowhere))
+          (sym (c .before .replaces .ensures) ∙ c .if4 .left)),
+    )
 
 unreadable-requires : tie.Need-unreadable-requires Inv-loop μ-loop
 unreadable-requires c κs = tt
@@ -199,7 +221,11 @@ returns c =
     let f = c .before .before .before in
     let l = at-loop (turn f) in
     c .unreadable .ensures
-    ∙ ap (regionRead _ _ _) (sym (full (seq-of l) (slots-of l) (l .loop .table) (l .loop .tags) (l .loop .ids) (l .loop .count) (l .loop .head) (l .loop .k) (held f) (going f) (used f) (raw-of f) (record-is f) (omega (arith, place-is f, c .before .before .if3 .left)) (c .before .if5 .taken)))
+    ∙ ap (regionRead _ _ _)
+    (sym
+    (full (seq-of l) (slots-of l) (l .loop .table) (l .loop .tags) (l .loop .ids) (l .loop .count) (l .loop .head) (l .loop .k)
+    (held f) (going f) (used f) (raw-of f) (record-is f) (omega (arith, place-is f, c .before .before .if3 .left))
+    (c .before .if5 .taken)))
 
 mul-table-2 : tie.Need-mul-table-2 Inv-loop μ-loop
 mul-table-2 c = omega arith
@@ -222,8 +248,12 @@ loop-less-5 c = omega arith
 loop-again-5 : tie.Need-loop-again-5 Inv-loop μ-loop
 loop-again-5 c =
     let f = c .before .before in
-    let l = at-loop (turn f) in
-    (l .loop .inv .0, add (seq-of l) (slots-of l) (l .loop .table) (l .loop .tags) (l .loop .ids) (l .loop .count) (l .loop .head) (l .loop .k) (held f) (going f) (used f) (raw-of f) (record-is f) (omega (arith, place-is f, c .before .if3 .left)) (omega (arith, held f .most, c .if5 .left)))
+    let l = at-loop (turn f) in (
+      l .loop .inv .0,
+      add (seq-of l) (slots-of l) (l .loop .table) (l .loop .tags) (l .loop .ids) (l .loop .count) (l .loop .head) (l .loop .k) (held f)
+          (going f) (used f) (raw-of f) (record-is f) (omega (arith, place-is f, c .before .if3 .left))
+          (omega (arith, held f .most, c .if5 .left)),
+    )
 
 cast-t38 : tie.Need-cast-t38 Inv-loop μ-loop
 cast-t38 c = omega arith

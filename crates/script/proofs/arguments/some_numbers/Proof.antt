@@ -56,7 +56,10 @@ loop-again c =
     let l = n .before .before in
     let a = l .before .before .args in (
       simp length-set (l .loop .inv .0),
-      below-set (l .loop .x) (a .t3) (l .loop .i) _ (omega arith) (number-fits (getD (a .t3) (l .loop .i) 0) (l .loop .next) _ _ (a .line .now) (sym (n .number .ensures) ∙ c .before .value .given .1)) (l .loop .inv .1),
+      below-set (l .loop .x) (a .t3) (l .loop .i) _ (omega arith)
+          (number-fits (getD (a .t3) (l .loop .i) 0) (l .loop .next) _ _ (a .line .now)
+          (sym (n .number .ensures) ∙ c .before .value .given .1))
+          (l .loop .inv .1),
     )
 
 returns-2 : tie.Need-returns-2 Inv-loop μ-loop

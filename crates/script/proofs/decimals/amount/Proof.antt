@@ -4,7 +4,8 @@ use Prim.Native.Nat.{_-_, _≤_}
 use native.Mathlib.Omega.{arith}
 use lib.ListN.{length, getD, drop}
 use Rattle.script.specs.Decimals.{amountFrom, amountOf}
-use Rattle.script.proofs.DecimalsAmounts.{a-digit, below-digits, above-digits, no-amount, some-amount, amount-end, amount-not, amount-further, amount-above}
+use Rattle.script.proofs.DecimalsAmounts.{a-digit, below-digits, above-digits, no-amount, some-amount, amount-end, amount-not}
+use Rattle.script.proofs.DecimalsAmounts.{amount-further, amount-above}
 use Rattle.script.proofs.decimals.amount.Statement.{statement}
 use Rattle.script.proofs.decimals.amount.Tie as tie
 
@@ -27,13 +28,19 @@ returns-2 : tie.Need-returns-2 Inv-loop μ-loop
 returns-2 c =
     let l = c .before .before .before in
     let s = l .before .before .args in
-    sym (amount-not (s .most) (s .word .now) (l .loop .i) (l .loop .value) (omega arith) (below-digits (getD (s .word .now) (l .loop .i) 0) (omega arith))) ∙ l .loop .inv .1
+    sym
+    (amount-not (s .most) (s .word .now) (l .loop .i) (l .loop .value) (omega arith)
+    (below-digits (getD (s .word .now) (l .loop .i) 0) (omega arith)))
+    ∙ l .loop .inv .1
 
 returns-3 : tie.Need-returns-3 Inv-loop μ-loop
 returns-3 c =
     let l = c .before .before .before .before in
     let s = l .before .before .args in
-    sym (amount-not (s .most) (s .word .now) (l .loop .i) (l .loop .value) (omega arith) (above-digits (getD (s .word .now) (l .loop .i) 0) (omega arith))) ∙ l .loop .inv .1
+    sym
+    (amount-not (s .most) (s .word .now) (l .loop .i) (l .loop .value) (omega arith)
+    (above-digits (getD (s .word .now) (l .loop .i) 0) (omega arith)))
+    ∙ l .loop .inv .1
 
 cast-digit : tie.Need-cast-digit Inv-loop μ-loop
 cast-digit c = omega arith
@@ -43,7 +50,10 @@ returns-4 c =
     let l = c .before .before .before .before .before in
     let s = l .before .before .args in
     let d = getD (s .word .now) (l .loop .i) 0 in
-    sym (amount-above (s .most) (s .word .now) (l .loop .i) (l .loop .value) (omega arith) (a-digit d (omega arith) (omega arith)) (omega arith)) ∙ l .loop .inv .1
+    sym
+    (amount-above (s .most) (s .word .now) (l .loop .i) (l .loop .value) (omega arith) (a-digit d (omega arith) (omega arith))
+    (omega arith))
+    ∙ l .loop .inv .1
 
 mul-if5 : tie.Need-mul-if5 Inv-loop μ-loop
 mul-if5 c = omega arith
@@ -56,7 +66,10 @@ returns-5 c =
     let l = c .before .before .before .before .before .before in
     let s = l .before .before .args in
     let d = getD (s .word .now) (l .loop .i) 0 in
-    sym (amount-above (s .most) (s .word .now) (l .loop .i) (l .loop .value) (omega arith) (a-digit d (omega arith) (omega arith)) (omega arith)) ∙ l .loop .inv .1
+    sym
+    (amount-above (s .most) (s .word .now) (l .loop .i) (l .loop .value) (omega arith) (a-digit d (omega arith) (omega arith))
+    (omega arith))
+    ∙ l .loop .inv .1
 
 mul-value : tie.Need-mul-value Inv-loop μ-loop
 mul-value c = omega arith
@@ -74,8 +87,11 @@ loop-again : tie.Need-loop-again Inv-loop μ-loop
 loop-again c =
     let l = c .before .before .before .before .before .before in
     let s = l .before .before .args in
-    let d = getD (s .word .now) (l .loop .i) 0 in
-    (omega arith, sym (amount-further (s .most) (s .word .now) (l .loop .i) (l .loop .value) (omega arith) (a-digit d (omega arith) (omega arith))) ∙ l .loop .inv .1)
+    let d = getD (s .word .now) (l .loop .i) 0 in (
+      omega arith,
+      sym (amount-further (s .most) (s .word .now) (l .loop .i) (l .loop .value) (omega arith) (a-digit d (omega arith) (omega arith)))
+          ∙ l .loop .inv .1,
+    )
 
 returns-6 : tie.Need-returns-6 Inv-loop μ-loop
 returns-6 c =

@@ -17,7 +17,8 @@ taken-here c =
     let e = c .before .before in
     let x = e .before in
     let s = x .before .before .before .before .args in
-    ap₂ takenAt (e .end .ensures) (c .amount .ensures ∙ ap (amountOf (s .most)) (word-part (s .at + 1) (s .text .now) (e .end .result) (e .end .ensures)))
+    ap₂ takenAt (e .end .ensures)
+    (c .amount .ensures ∙ ap (amountOf (s .most)) (word-part (s .at + 1) (s .text .now) (e .end .result) (e .end .ensures)))
     ∙ sym (number-here (s .most) (s .at) (s .text .now) (eq-eqb _ _ (x .if2 .left)))
 
 returns : tie.Need-returns

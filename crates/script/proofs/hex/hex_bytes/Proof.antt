@@ -28,7 +28,9 @@ room : (l : tie.At-loop Inv-loop μ-loop) → let s = start l .args in
 room l = let s = start l .args in fill-room (s .text .now) (s .at) (s .to) (length (s .out .now)) (omega arith)
 
 abbrev Left : tie.At-loop Inv-loop μ-loop → List ℕ → Type 0
-Left l rest = let s = start l .args in Begun (s .out .now) (s .to) (bytesIn (s .at) (s .text .now) (s .to) (length (s .out .now))) rest (l .loop .out) (l .loop .k)
+Left l rest =
+    let s = start l .args in
+    Begun (s .out .now) (s .to) (bytesIn (s .at) (s .text .now) (s .to) (length (s .out .now))) rest (l .loop .out) (l .loop .k)
 
 long : (l : tie.At-loop Inv-loop μ-loop) → length (l .loop .out) ≡ length (start l .args .out .now)
 long l = same-room (room l) (l .loop .inv .1)
@@ -37,7 +39,8 @@ returns : tie.Need-returns Inv-loop μ-loop
 returns c =
     let s = c .before .before .before .args in
     let out = s .out .now in
-    subst (λ (t : List ℕ). Puts out (s .to) t out (s .to)) (sym (fill-full (s .text .now) (s .at) (s .to) (length out) (omega arith))) (put-none out (s .to))
+    subst (λ (t : List ℕ). Puts out (s .to) t out (s .to)) (sym (fill-full (s .text .now) (s .at) (s .to) (length out) (omega arith)))
+    (put-none out (s .to))
 
 loop-holds : tie.Need-loop-holds Inv-loop μ-loop
 loop-holds c =
@@ -61,7 +64,11 @@ returns-2 c =
     let b = c .before .before in
     let l = b .before .before in
     let s = start l .args in
-    ended (room l) (subst (Left l) (fill-none (s .text .now) (l .loop .from) (l .loop .k) (length (s .out .now)) (sym (b .hex-byte .ensures) ∙ c .enum-told .given .1)) (l .loop .inv .1))
+    ended (room l)
+    (subst (Left l)
+    (fill-none (s .text .now) (l .loop .from) (l .loop .k) (length (s .out .now))
+    (sym (b .hex-byte .ensures) ∙ c .enum-told .given .1))
+    (l .loop .inv .1))
 
 slice-write-out : tie.Need-slice-write-out Inv-loop μ-loop
 slice-write-out c = omega arith
@@ -83,7 +90,11 @@ loop-again c =
     let b = c .before .before .before in
     let l = b .before .before in
     let s = start l .args in
-    let here = subst (Left l) (fill-more (s .text .now) (l .loop .from) (l .loop .k) (length (s .out .now)) _ (omega (arith, long l)) (sym (b .hex-byte .ensures) ∙ c .before .b .given .1)) (l .loop .inv .1) in
+    let here =
+    subst (Left l)
+    (fill-more (s .text .now) (l .loop .from) (l .loop .k) (length (s .out .now)) _ (omega (arith, long l))
+    (sym (b .hex-byte .ensures) ∙ c .before .b .given .1))
+    (l .loop .inv .1) in
     (omega (arith, long l), next (room l) here (put-one (l .loop .out) (l .loop .k) _ (omega arith)))
 
 same-length-2 : tie.Need-same-length-2 Inv-loop μ-loop
@@ -93,7 +104,9 @@ returns-3 : tie.Need-returns-3 Inv-loop μ-loop
 returns-3 c =
     let l = c .before in
     let s = start l .args in
-    ended (room l) (subst (Left l) (fill-full (s .text .now) (l .loop .from) (l .loop .k) (length (s .out .now)) (omega (arith, long l))) (l .loop .inv .1))
+    ended (room l)
+    (subst (Left l) (fill-full (s .text .now) (l .loop .from) (l .loop .k) (length (s .out .now)) (omega (arith, long l)))
+    (l .loop .inv .1))
 
 pub hex-bytes-spec : {M : Type 1} → statement M
 hex-bytes-spec =

@@ -22,13 +22,17 @@ compared c =
     c .is-same .ensures ∙ ap (λ (w : List ℕ). same w (s .word .now)) (word-part (s .at + 1) (s .text .now) (e .end .result) (e .end .ensures))
 
 returns : tie.Need-returns
-returns c = let s = c .before .before .before .args in sym (skip-not (s .word .now) (s .at) (s .text .now) (no-space (s .at) (s .text .now) (omega arith)))
+returns c =
+    let s = c .before .before .before .args in
+    sym (skip-not (s .word .now) (s .at) (s .text .now) (no-space (s .at) (s .text .now) (omega arith)))
 
 shared-slice-read-if2 : tie.Need-shared-slice-read-if2
 shared-slice-read-if2 c = search needs
 
 returns-2 : tie.Need-returns-2
-returns-2 c = let s = c .before .before .before .before .before .args in sym (skip-not (s .word .now) (s .at) (s .text .now) (ne-eqb _ _ (c .if2 .taken)))
+returns-2 c =
+    let s = c .before .before .before .before .before .args in
+    sym (skip-not (s .word .now) (s .at) (s .text .now) (ne-eqb _ _ (c .if2 .taken)))
 
 add-from : tie.Need-add-from
 add-from c = search needs

@@ -32,10 +32,17 @@ trying t cut = let a = start-of t .args in triesFrom 3 (a .sector) (a .head) (sl
 
 -- what the tries showed
 abbrev shown-of : tie.After-try-slots → Bool → SlotTries
-shown-of t cut = record { full = t .try-slots .result .full; answer = t .try-slots .result .answer; head = t .try-slots .result .head; flash = flashWith (t .try-slots .last .0) (t .try-slots .result .used) (trying t cut .flash .cut) }
+shown-of t cut =
+    record {
+      full = t .try-slots .result .full;
+      answer = t .try-slots .result .answer;
+      head = t .try-slots .result .head;
+      flash = flashWith (t .try-slots .last .0) (t .try-slots .result .used) (trying t cut .flash .cut);
+    }
 
 tried-is : (t : tie.After-try-slots) (cut : Bool) → trying t cut ≡ shown-of t cut
-tried-is t cut = tries-are (trying t cut) (t .try-slots .result) (t .try-slots .last .0) (rw (t .before .encode .ensures) at (t .try-slots .ensures cut))
+tried-is t cut =
+    tries-are (trying t cut) (t .try-slots .result) (t .try-slots .last .0) (rw (t .before .encode .ensures) at (t .try-slots .ensures cut))
 
 cheap : (t : tie.After-try-slots) → let u = start-of t .args .used in
     (t .try-slots .result .used .programmed ≤ u .programmed + 48) × (t .try-slots .result .used .erased ≤ u .erased)
@@ -62,8 +69,7 @@ commit-requires : tie.Need-commit-requires
 commit-requires c κs =
     let t = c .before .before .before .before .before .before in
     let a = start-of t .args in
-    let p = start-of t .pre in
-    (
+    let p = start-of t .pre in (
       record {
         few = p .few;
         sectors = p .sectors;
@@ -82,7 +88,9 @@ returns c = λ cut.
     let q = c .before .before in
     let t = q .before .before .before .before .before .before .before in
     let a = start-of t .args in
-    rw (append-full (a .sectors) (a .sector) (a .seq) (a .head) (a .next-seq) (a .«record») (records-of t) (flash-of t cut) (shown-of t cut) (tried-is t cut) (q .before .before .before .if1 .taken))
+    rw
+    (append-full (a .sectors) (a .sector) (a .seq) (a .head) (a .next-seq) (a .«record») (records-of t) (flash-of t cut)
+    (shown-of t cut) (tried-is t cut) (q .before .before .before .if1 .taken))
     (rw (q .before .before .sector-after .ensures) at (q .commit .ensures (trying t cut .flash .cut)))
 
 same-length-2 : tie.Need-same-length-2
@@ -92,7 +100,9 @@ returns-2 : tie.Need-returns-2
 returns-2 c = λ cut.
     let t = c .before .before .before .before in
     let a = start-of t .args in
-    rw (append-tried (a .sectors) (a .sector) (a .seq) (a .head) (a .next-seq) (a .«record») (records-of t) (flash-of t cut) (shown-of t cut) (tried-is t cut) (c .if1 .left))
+    rw
+    (append-tried (a .sectors) (a .sector) (a .seq) (a .head) (a .next-seq) (a .«record») (records-of t) (flash-of t cut)
+    (shown-of t cut) (tried-is t cut) (c .if1 .left))
     (record { shown = refl; left = refl })
 
 pub append-spec : {M : Type 1} → statement M

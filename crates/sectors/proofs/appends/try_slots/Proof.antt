@@ -18,7 +18,10 @@ use Rattle.sectors.proofs.appends.try_slots.Tie as tie
 abbrev Inv-loop : tie.InvT-loop
 Inv-loop image₀ sector head bytes answer₀ h₀ u₀ left₀ image answer h u left =
     (h ≤ 256) × (left ≤ 3) × (length image ≡ length image₀) × (u .programmed + 16 * left ≤ u₀ .programmed + 48)
-    × ((cut : Bool) → (now : Bool) × (triesFrom left sector h bytes answer (flashWith image u now) ≡ triesFrom 3 sector head bytes WriteError (flashWith image₀ u₀ cut)))
+    × ((cut : Bool)
+    → (now : Bool)
+    × (triesFrom left sector h bytes answer (flashWith image u now)
+    ≡ triesFrom 3 sector head bytes WriteError (flashWith image₀ u₀ cut)))
 
 abbrev μ-loop : tie.MeasureT-loop
 μ-loop image₀ sector head bytes answer₀ h₀ u₀ left₀ image answer h u left = left
@@ -36,7 +39,12 @@ at-loop p = p .before .before .before .before
 abbrev turn : tie.At-loop Inv-loop μ-loop → Bool → Stepped
 turn l now = program (start-of l .args .sector) (l .loop .h) (start-of l .args .bytes) (flash-of l now)
 
-turn-is : (p : tie.After-program Inv-loop μ-loop) (now : Bool) → turn (at-loop p) now ≡ record { answer = p .program .result .answer; flash = flashWith (p .program .last .0) (p .program .result .used) (turn (at-loop p) now .flash .cut) }
+turn-is : (p : tie.After-program Inv-loop μ-loop) (now : Bool)
+    → turn (at-loop p) now
+    ≡ record {
+      answer = p .program .result .answer;
+      flash = flashWith (p .program .last .0) (p .program .result .used) (turn (at-loop p) now .flash .cut);
+    }
 turn-is p now = step-is (turn (at-loop p) now) (p .program .result) (p .program .last .0) (p .program .ensures now)
 
 cheap : (p : tie.After-program Inv-loop μ-loop) → p .program .result .used .programmed ≤ at-loop p .loop .u .programmed + 16
@@ -56,7 +64,11 @@ returns c = λ cut.
     let l = c .before .before in
     let a = start-of l .args in
     let now = l .loop .inv .4 cut .0 in
-    rw (sym (l .loop .inv .4 cut .1) ∙ tries-full (l .loop .left) (a .sector) (l .loop .h) (a .bytes) (l .loop .answer) (flash-of l now) (c .before .loop-test .taken) (c .if1 .taken)) (record { shown = refl; left = refl })
+    rw
+    (sym (l .loop .inv .4 cut .1)
+    ∙ tries-full (l .loop .left) (a .sector) (l .loop .h) (a .bytes) (l .loop .answer) (flash-of l now) (c .before .loop-test .taken)
+    (c .if1 .taken))
+    (record { shown = refl; left = refl })
 
 cast-program : tie.Need-cast-program Inv-loop μ-loop
 cast-program c = omega arith
@@ -84,7 +96,8 @@ returns-2 c = λ cut.
     let now = l .loop .inv .4 cut .0 in
     let done = ap (λ (o : Stepped). isDone (o .answer)) (turn-is p now) ∙ sym (c .before .is-done .ensures) ∙ c .if2 .taken in
     let came =
-    tries-done (l .loop .left) (a .sector) (l .loop .h) (a .bytes) (l .loop .answer) (flash-of l now) (p .before .before .before .loop-test .taken) (p .before .before .if1 .left) done
+    tries-done (l .loop .left) (a .sector) (l .loop .h) (a .bytes) (l .loop .answer) (flash-of l now)
+    (p .before .before .before .loop-test .taken) (p .before .before .if1 .left) done
     ∙ ap (λ (o : Stepped). record { full = false; answer = Done; head = l .loop .h + 1; flash = o .flash }) (turn-is p now) in
     rw (sym (l .loop .inv .4 cut .1) ∙ came) (record { shown = refl; left = refl })
 
@@ -105,7 +118,9 @@ loop-again c =
           let failed = ap (λ (o : Stepped). isDone (o .answer)) (turn-is p now) ∙ sym (c .before .is-done .ensures) ∙ c .if2 .left in (
             turn l now .flash .cut,
             ap (λ (o : Stepped). triesFrom (l .loop .left - 1) (a .sector) (l .loop .h + 1) (a .bytes) (o .answer) (o .flash)) (sym (turn-is p now))
-                ∙ sym (tries-on (l .loop .left) (a .sector) (l .loop .h) (a .bytes) (l .loop .answer) (flash-of l now) (p .before .before .before .loop-test .taken) (p .before .before .if1 .left) failed)
+                ∙ sym
+                (tries-on (l .loop .left) (a .sector) (l .loop .h) (a .bytes) (l .loop .answer) (flash-of l now)
+                (p .before .before .before .loop-test .taken) (p .before .before .if1 .left) failed)
                 ∙ l .loop .inv .4 cut .1,
           ),
     )
@@ -118,7 +133,11 @@ returns-3 c = λ cut.
     let l = c .before in
     let a = start-of l .args in
     let now = l .loop .inv .4 cut .0 in
-    rw (sym (l .loop .inv .4 cut .1) ∙ tries-end (l .loop .left) (a .sector) (l .loop .h) (a .bytes) (l .loop .answer) (flash-of l now) (omega (arith, c .loop-test .left))) (record { shown = refl; left = refl })
+    rw
+    (sym (l .loop .inv .4 cut .1)
+    ∙ tries-end (l .loop .left) (a .sector) (l .loop .h) (a .bytes) (l .loop .answer) (flash-of l now)
+    (omega (arith, c .loop-test .left)))
+    (record { shown = refl; left = refl })
 
 pub try-slots-spec : {M : Type 1} → statement M
 try-slots-spec =

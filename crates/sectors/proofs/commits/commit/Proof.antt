@@ -25,8 +25,12 @@ use Rattle.sectors.proofs.commits.commit.Tie as tie
 abbrev Inv-loop : tie.InvT-loop
 Inv-loop image₀ sectors avoid first state next-seq table count answer₀ next₀ u₀ s₀ left₀ image answer next u s left =
     (s < sectors) × (left ≤ sectors) × (next ≤ seqMax) × (length image ≡ length image₀)
-    × (u .programmed + 16 * (limit + 1) * left ≤ u₀ .programmed + 16 * (limit + 1) * sectors) × (u .erased + 4096 * left ≤ u₀ .erased + 4096 * sectors)
-    × ((cut : Bool) → (now : Bool) × (commitFrom left sectors avoid s (take count table) answer state next (flashWith image u now) ≡ commitFrom sectors sectors avoid first (take count table) WriteError state next-seq (flashWith image₀ u₀ cut)))
+    × (u .programmed + 16 * (limit + 1) * left ≤ u₀ .programmed + 16 * (limit + 1) * sectors)
+    × (u .erased + 4096 * left ≤ u₀ .erased + 4096 * sectors)
+    × ((cut : Bool)
+    → (now : Bool)
+    × (commitFrom left sectors avoid s (take count table) answer state next (flashWith image u now)
+    ≡ commitFrom sectors sectors avoid first (take count table) WriteError state next-seq (flashWith image₀ u₀ cut)))
 
 abbrev μ-loop : tie.MeasureT-loop
 μ-loop image₀ sectors avoid first state next-seq table count answer₀ next₀ u₀ s₀ left₀ image answer next u s left =
@@ -39,7 +43,9 @@ abbrev records-of : tie.At-loop Inv-loop μ-loop → List Raw
 records-of l = take (start-of l .args .count) (start-of l .args .table)
 
 records-long : (l : tie.At-loop Inv-loop μ-loop) → length (records-of l) ≡ start-of l .args .count
-records-long l = length-take-le (start-of l .args .count) (start-of l .args .table) (omega (arith, start-of l .pre .0 .few, start-of l .good .1 .1 .1 .1 .1 .1 .0 .1 .0 .1))
+records-long l =
+    length-take-le (start-of l .args .count) (start-of l .args .table)
+    (omega (arith, start-of l .pre .0 .few, start-of l .good .1 .1 .1 .1 .1 .1 .0 .1 .0 .1))
 
 abbrev flash-of : tie.At-loop Inv-loop μ-loop → Bool → Flash
 flash-of l now = flashWith (l .loop .image) (l .loop .u) now
@@ -51,11 +57,17 @@ at-loop w = w .before .before .before .before .before .before
 abbrev turn : tie.At-loop Inv-loop μ-loop → Bool → Stepped
 turn l now = writeSector (l .loop .s) (l .loop .next) (records-of l) (flash-of l now)
 
-turn-is : (w : tie.After-write-sector Inv-loop μ-loop) (now : Bool) → turn (at-loop w) now ≡ record { answer = w .write-sector .result .answer; flash = flashWith (w .write-sector .last .0) (w .write-sector .result .used) (turn (at-loop w) now .flash .cut) }
+turn-is : (w : tie.After-write-sector Inv-loop μ-loop) (now : Bool)
+    → turn (at-loop w) now
+    ≡ record {
+      answer = w .write-sector .result .answer;
+      flash = flashWith (w .write-sector .last .0) (w .write-sector .result .used) (turn (at-loop w) now .flash .cut);
+    }
 turn-is w now = step-is (turn (at-loop w) now) (w .write-sector .result) (w .write-sector .last .0) (w .write-sector .ensures now)
 
 cheap : (w : tie.After-write-sector Inv-loop μ-loop) → let l = at-loop w in
-    (w .write-sector .result .used .programmed ≤ l .loop .u .programmed + 16 * (limit + 1)) × (w .write-sector .result .used .erased ≤ l .loop .u .erased + 4096)
+    (w .write-sector .result .used .programmed ≤ l .loop .u .programmed + 16 * (limit + 1))
+    × (w .write-sector .result .used .erased ≤ l .loop .u .erased + 4096)
 cheap w =
     let l = at-loop w in
     let most = sector-within (l .loop .s) (l .loop .next) (records-of l) (flash-of l true) in (
@@ -88,8 +100,14 @@ loop-again c =
       λ cut.
           let now = l .loop .inv .6 cut .0 in (
             now,
-            ap (λ (x : ℕ). commitFrom (l .loop .left - 1) (a .sectors) (a .avoid) x (records-of l) (l .loop .answer) (a .state) (l .loop .next) (flash-of l now)) (c .before .sector-after .ensures)
-                ∙ sym (commit-skip (l .loop .left) (a .sectors) (a .avoid) (l .loop .s) (records-of l) (l .loop .answer) (a .state) (l .loop .next) (flash-of l now) (c .before .before .loop-test .taken) (c .if1 .taken))
+            ap
+                (λ (x : ℕ).
+                commitFrom (l .loop .left - 1) (a .sectors) (a .avoid) x (records-of l) (l .loop .answer) (a .state) (l .loop .next)
+                (flash-of l now))
+                (c .before .sector-after .ensures)
+                ∙ sym
+                (commit-skip (l .loop .left) (a .sectors) (a .avoid) (l .loop .s) (records-of l) (l .loop .answer) (a .state)
+                (l .loop .next) (flash-of l now) (c .before .before .loop-test .taken) (c .if1 .taken))
                 ∙ l .loop .inv .6 cut .1,
           ),
     )
@@ -102,13 +120,21 @@ returns c = λ cut.
     let l = c .before .before .before .before in
     let a = start-of l .args in
     let now = l .loop .inv .6 cut .0 in
-    rw (sym (l .loop .inv .6 cut .1) ∙ commit-used-up (l .loop .left) (a .sectors) (a .avoid) (l .loop .s) (records-of l) (l .loop .answer) (a .state) (l .loop .next) (flash-of l now) (c .before .before .before .loop-test .taken) (c .before .if1 .left) (c .if2 .taken)) (record { shown = refl; left = refl })
+    rw
+    (sym (l .loop .inv .6 cut .1)
+    ∙ commit-used-up (l .loop .left) (a .sectors) (a .avoid) (l .loop .s) (records-of l) (l .loop .answer) (a .state) (l .loop .next)
+    (flash-of l now) (c .before .before .before .loop-test .taken) (c .before .if1 .left) (c .if2 .taken))
+    (record { shown = refl; left = refl })
 
 write-sector-requires : tie.Need-write-sector-requires Inv-loop μ-loop
 write-sector-requires c κs =
     let l = c .before .before .before .before .before in
-    let p = start-of l .pre .0 in
-    (p .few, omega (arith, l .loop .inv .0, l .loop .inv .3, p .sized), omega (arith, l .loop .inv .4, p .few, p .slots), omega (arith, l .loop .inv .5, p .erases))
+    let p = start-of l .pre .0 in (
+      p .few,
+      omega (arith, l .loop .inv .0, l .loop .inv .3, p .sized),
+      omega (arith, l .loop .inv .4, p .few, p .slots),
+      omega (arith, l .loop .inv .5, p .erases),
+    )
 
 add-next : tie.Need-add-next Inv-loop μ-loop
 add-next c = omega arith
@@ -136,8 +162,13 @@ returns-2 c = λ cut.
     let now = l .loop .inv .6 cut .0 in
     let done = ap (λ (o : Stepped). isDone (o .answer)) (turn-is w now) ∙ sym (c .before .is-done .ensures) ∙ c .if3 .taken in
     let came =
-    commit-done (l .loop .left) (a .sectors) (a .avoid) (l .loop .s) (records-of l) (l .loop .answer) (a .state) (l .loop .next) (flash-of l now) (w .before .before .before .before .before .loop-test .taken) (w .before .before .before .if1 .left) (w .before .before .if2 .left) done
-    ∙ ap₂ (λ (n : ℕ) (o : Stepped). record { answer = Done; state = Active (l .loop .s) (l .loop .next) (n + 1); next = l .loop .next + 1; flash = o .flash }) (records-long l) (turn-is w now) in
+    commit-done (l .loop .left) (a .sectors) (a .avoid) (l .loop .s) (records-of l) (l .loop .answer) (a .state) (l .loop .next)
+    (flash-of l now) (w .before .before .before .before .before .loop-test .taken) (w .before .before .before .if1 .left)
+    (w .before .before .if2 .left) done
+    ∙ ap₂
+    (λ (n : ℕ) (o : Stepped).
+    record { answer = Done; state = Active (l .loop .s) (l .loop .next) (n + 1); next = l .loop .next + 1; flash = o .flash })
+    (records-long l) (turn-is w now) in
     rw (sym (l .loop .inv .6 cut .1) ∙ came) (record { shown = refl; left = refl })
 
 loop-less-2 : tie.Need-loop-less-2 Inv-loop μ-loop
@@ -159,8 +190,15 @@ loop-again-2 c =
           let now = l .loop .inv .6 cut .0 in
           let failed = ap (λ (o : Stepped). isDone (o .answer)) (turn-is w now) ∙ sym (c .before .is-done .ensures) ∙ c .if3 .left in (
             turn l now .flash .cut,
-            ap₂ (λ (x : ℕ) (o : Stepped). commitFrom (l .loop .left - 1) (a .sectors) (a .avoid) x (records-of l) (o .answer) (a .state) (l .loop .next + 1) (o .flash)) (t .sector-after .ensures) (sym (turn-is w now))
-                ∙ sym (commit-on (l .loop .left) (a .sectors) (a .avoid) (l .loop .s) (records-of l) (l .loop .answer) (a .state) (l .loop .next) (flash-of l now) (t .before .loop-test .taken) (w .before .before .before .if1 .left) (w .before .before .if2 .left) failed)
+            ap₂
+                (λ (x : ℕ) (o : Stepped).
+                commitFrom (l .loop .left - 1) (a .sectors) (a .avoid) x (records-of l) (o .answer) (a .state) (l .loop .next + 1)
+                (o .flash))
+                (t .sector-after .ensures) (sym (turn-is w now))
+                ∙ sym
+                (commit-on (l .loop .left) (a .sectors) (a .avoid) (l .loop .s) (records-of l) (l .loop .answer) (a .state)
+                (l .loop .next) (flash-of l now) (t .before .loop-test .taken) (w .before .before .before .if1 .left)
+                (w .before .before .if2 .left) failed)
                 ∙ l .loop .inv .6 cut .1,
           ),
     )
@@ -173,7 +211,11 @@ returns-3 c = λ cut.
     let l = c .before in
     let a = start-of l .args in
     let now = l .loop .inv .6 cut .0 in
-    rw (sym (l .loop .inv .6 cut .1) ∙ commit-end (l .loop .left) (a .sectors) (a .avoid) (l .loop .s) (records-of l) (l .loop .answer) (a .state) (l .loop .next) (flash-of l now) (omega (arith, c .loop-test .left))) (record { shown = refl; left = refl })
+    rw
+    (sym (l .loop .inv .6 cut .1)
+    ∙ commit-end (l .loop .left) (a .sectors) (a .avoid) (l .loop .s) (records-of l) (l .loop .answer) (a .state) (l .loop .next)
+    (flash-of l now) (omega (arith, c .loop-test .left)))
+    (record { shown = refl; left = refl })
 
 pub commit-spec : {M : Type 1} → statement M
 commit-spec =

@@ -25,7 +25,10 @@ use Rattle.sectors.proofs.rewrites.write_records.Tie as tie
 abbrev Inv-loop : tie.InvT-loop
 Inv-loop image₀ sector seq count table start u₀ i₀ image u i =
     (start ≡ seqFed seq) × (i ≤ count) × (length image ≡ length image₀) × (u .programmed ≤ u₀ .programmed + 16 * i)
-    × ((cut : Bool) → (now : Bool) × (writeRecords sector seq (i + 1) (drop i (take count table)) (flashWith image u now) ≡ writeRecords sector seq 1 (take count table) (flashWith image₀ u₀ cut)))
+    × ((cut : Bool)
+    → (now : Bool)
+    × (writeRecords sector seq (i + 1) (drop i (take count table)) (flashWith image u now)
+    ≡ writeRecords sector seq 1 (take count table) (flashWith image₀ u₀ cut)))
 
 abbrev μ-loop : tie.MeasureT-loop
 μ-loop image₀ sector seq count table start u₀ i₀ image u i = count - i
@@ -40,7 +43,9 @@ abbrev records-of : tie.At-loop Inv-loop μ-loop → List Raw
 records-of l = take (start-of l .args .count) (start-of l .args .t4)
 
 records-long : (l : tie.At-loop Inv-loop μ-loop) → length (records-of l) ≡ start-of l .args .count
-records-long l = length-take-le (start-of l .args .count) (start-of l .args .t4) (omega (arith, start-of l .pre .0, start-of l .good .1 .1 .1 .0 .1 .0 .1))
+records-long l =
+    length-take-le (start-of l .args .count) (start-of l .args .t4)
+    (omega (arith, start-of l .pre .0, start-of l .good .1 .1 .1 .0 .1 .0 .1))
 
 -- the step of a turn, from the flash as it stands
 abbrev turn : tie.At-loop Inv-loop μ-loop → Bool → Stepped
@@ -58,12 +63,15 @@ stepped p now =
     ∙ ap (slotOf (a .seq)) (sym (getD-take (a .count) (a .t4) (l .loop .i) nowhere (omega arith))) in
     rw bytes at (p .program .ensures now)
 
-cheap : (p : tie.After-program Inv-loop μ-loop) → let l = at-loop p in p .program .result .used .programmed ≤ start-of l .args .used .programmed + 16 * (l .loop .i + 1)
+cheap : (p : tie.After-program Inv-loop μ-loop) →
+    let l = at-loop p in p .program .result .used .programmed ≤ start-of l .args .used .programmed + 16 * (l .loop .i + 1)
 cheap p =
     let l = at-loop p in
     let a = start-of l .args in
     let same = ap (λ (r : Step). r .used .programmed) (stepped p true .shown) in
-    let most = program-within (a .sector) (l .loop .i + 1) (slotOf (a .seq) (getD (records-of l) (l .loop .i) nowhere)) (flashWith (l .loop .image) (l .loop .u) true) .programmed in
+    let most =
+    program-within (a .sector) (l .loop .i + 1) (slotOf (a .seq) (getD (records-of l) (l .loop .i) nowhere))
+    (flashWith (l .loop .image) (l .loop .u) true) .programmed in
     omega (arith, same, most, l .loop .inv .3)
 
 under-requires : tie.Need-under-requires Inv-loop μ-loop
@@ -100,7 +108,9 @@ returns c = λ cut.
     let now = l .loop .inv .4 cut .0 in
     let failed = sym (c .before .is-done .ensures) ∙ not-true (c .before .is-done .result) (c .if1 .taken) in
     let answered = ap (λ (r : Step). isDone (r .answer)) (stepped p now .shown) in
-    let stop = records-stop (start-of l .args .sector) (start-of l .args .seq) (records-of l) (l .loop .i) (flashWith (l .loop .image) (l .loop .u) now) (omega (arith, records-long l)) (sym answered ∙ failed) in
+    let stop =
+    records-stop (start-of l .args .sector) (start-of l .args .seq) (records-of l) (l .loop .i)
+    (flashWith (l .loop .image) (l .loop .u) now) (omega (arith, records-long l)) (sym answered ∙ failed) in
     rw (sym (l .loop .inv .4 cut .1) ∙ stop) (stepped p now)
 
 add-i : tie.Need-add-i Inv-loop μ-loop
@@ -122,8 +132,14 @@ loop-again c =
           let done = sym (c .before .before .is-done .ensures) ∙ not-false (c .before .before .is-done .result) (c .before .if1 .left) in
           let answered = ap (λ (r : Step). isDone (r .answer)) (stepped p now .shown) in (
             turn l now .flash .cut,
-            ap (λ (o : Stepped). writeRecords (start-of l .args .sector) (start-of l .args .seq) (l .loop .i + 1 + 1) (drop (l .loop .i + 1) (records-of l)) (o .flash)) (sym (step-is (turn l now) (p .program .result) (p .program .last .0) (stepped p now)))
-                ∙ sym (records-on (start-of l .args .sector) (start-of l .args .seq) (records-of l) (l .loop .i) (flashWith (l .loop .image) (l .loop .u) now) (omega (arith, records-long l)) (sym answered ∙ done))
+            ap
+                (λ (o : Stepped).
+                writeRecords (start-of l .args .sector) (start-of l .args .seq) (l .loop .i + 1 + 1)
+                (drop (l .loop .i + 1) (records-of l)) (o .flash))
+                (sym (step-is (turn l now) (p .program .result) (p .program .last .0) (stepped p now)))
+                ∙ sym
+                (records-on (start-of l .args .sector) (start-of l .args .seq) (records-of l) (l .loop .i)
+                (flashWith (l .loop .image) (l .loop .u) now) (omega (arith, records-long l)) (sym answered ∙ done))
                 ∙ l .loop .inv .4 cut .1,
           ),
     )
@@ -135,7 +151,9 @@ returns-2 : tie.Need-returns-2 Inv-loop μ-loop
 returns-2 c = λ cut.
     let l = c .before in
     let now = l .loop .inv .4 cut .0 in
-    let end = records-end (start-of l .args .sector) (start-of l .args .seq) (records-of l) (l .loop .i) (flashWith (l .loop .image) (l .loop .u) now) (omega (arith, records-long l)) in
+    let end =
+    records-end (start-of l .args .sector) (start-of l .args .seq) (records-of l) (l .loop .i)
+    (flashWith (l .loop .image) (l .loop .u) now) (omega (arith, records-long l)) in
     rw (sym (l .loop .inv .4 cut .1) ∙ end) (record { shown = refl; left = refl })
 
 pub write-records-spec : {M : Type 1} → statement M

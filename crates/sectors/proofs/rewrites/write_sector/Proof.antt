@@ -27,7 +27,13 @@ first-flash e cut = flashWith (start-of e .args .image .now) (start-of e .args .
 abbrev records-of : tie.After-erase → List Raw
 records-of e = take (start-of e .args .count) (start-of e .args .table)
 
-erased-is : (e : tie.After-erase) (cut : Bool) → erase (start-of e .args .sector) (first-flash e cut) ≡ record { answer = e .erase .result .answer; flash = flashWith (e .erase .last .0) (e .erase .result .used) (erase (start-of e .args .sector) (first-flash e cut) .flash .cut) }
+erased-is : (e : tie.After-erase) (cut : Bool)
+    → erase (start-of e .args .sector) (first-flash e cut)
+    ≡ record {
+      answer = e .erase .result .answer;
+      flash = flashWith (e .erase .last .0) (e .erase .result .used)
+          (erase (start-of e .args .sector) (first-flash e cut) .flash .cut);
+    }
 erased-is e cut = step-is (erase (start-of e .args .sector) (first-flash e cut)) (e .erase .result) (e .erase .last .0) (e .erase .ensures cut)
 
 abbrev erased-at : tie.After-write-records → tie.After-erase
@@ -42,14 +48,22 @@ filled-shown w cut =
     let o = erase (start-of e .args .sector) (first-flash e cut) in
     rw (ap (λ (x : Stepped). x .flash) (sym (erased-is e cut))) at (w .write-records .ensures (o .flash .cut))
 
-filled-is : (w : tie.After-write-records) (cut : Bool) → filling w cut ≡ record { answer = w .write-records .result .answer; flash = flashWith (w .write-records .last .0) (w .write-records .result .used) (filling w cut .flash .cut) }
+filled-is : (w : tie.After-write-records) (cut : Bool)
+    → filling w cut
+    ≡ record {
+      answer = w .write-records .result .answer;
+      flash = flashWith (w .write-records .last .0) (w .write-records .result .used) (filling w cut .flash .cut);
+    }
 filled-is w cut = step-is (filling w cut) (w .write-records .result) (w .write-records .last .0) (filled-shown w cut)
 
-erase-done : (w : tie.After-write-records) (cut : Bool) → let e = erased-at w in isDone (erase (start-of e .args .sector) (first-flash e cut) .answer) ≡ true
+erase-done : (w : tie.After-write-records) (cut : Bool) →
+    let e = erased-at w in isDone (erase (start-of e .args .sector) (first-flash e cut) .answer) ≡ true
 erase-done w cut =
     let e = erased-at w in
     let d = w .before .before .before in
-    ap (λ (o : Stepped). isDone (o .answer)) (erased-is e cut) ∙ sym (d .is-done .ensures) ∙ not-false (d .is-done .result) (w .before .before .if1 .left)
+    ap (λ (o : Stepped). isDone (o .answer)) (erased-is e cut)
+    ∙ sym (d .is-done .ensures)
+    ∙ not-false (d .is-done .result) (w .before .before .if1 .left)
 
 -- what was used stays within bounds
 erase-cheap : (e : tie.After-erase) → e .erase .result .used .programmed ≤ start-of e .args .used .programmed
@@ -57,12 +71,21 @@ erase-cheap e =
     let w = erase-within (start-of e .args .sector) (first-flash e true) .programmed in
     omega (arith, w, ap (λ (o : Stepped). o .flash .programmed) (erased-is e true))
 
-fill-cheap : (w : tie.After-write-records) → w .write-records .result .used .programmed ≤ start-of (erased-at w) .args .used .programmed + 16 * start-of (erased-at w) .args .count
+fill-cheap : (w : tie.After-write-records)
+    → w .write-records .result .used .programmed ≤ start-of (erased-at w) .args .used .programmed + 16 * start-of (erased-at w) .args .count
 fill-cheap w =
     let e = erased-at w in
-    let most = records-within (start-of e .args .sector) (start-of e .args .seq) 1 (records-of e) (wiped (start-of e .args .sector) (start-of e .args .seq) (records-of e) (first-flash e true)) .programmed in
+    let most =
+    records-within (start-of e .args .sector) (start-of e .args .seq) 1 (records-of e)
+    (wiped (start-of e .args .sector) (start-of e .args .seq) (records-of e) (first-flash e true)) .programmed in
     let few : length (records-of e) ≤ start-of e .args .count = omega (arith, length-take (start-of e .args .count) (start-of e .args .table)) in
-    omega (arith, most, few, erase-within (start-of e .args .sector) (first-flash e true) .programmed, ap (λ (o : Stepped). o .flash .programmed) (filled-is w true))
+    omega (
+      arith,
+      most,
+      few,
+      erase-within (start-of e .args .sector) (first-flash e true) .programmed,
+      ap (λ (o : Stepped). o .flash .programmed) (filled-is w true),
+    )
 
 erase-requires : tie.Need-erase-requires
 erase-requires c κs = search needs
@@ -77,7 +100,10 @@ returns : tie.Need-returns
 returns c = λ cut.
     let e = c .before .before .before .before in
     let a = start-of e .args in
-    let failed = ap (λ (o : Stepped). isDone (o .answer)) (erased-is e cut) ∙ sym (c .before .is-done .ensures) ∙ not-true (c .before .is-done .result) (c .if1 .taken) in
+    let failed =
+    ap (λ (o : Stepped). isDone (o .answer)) (erased-is e cut)
+    ∙ sym (c .before .is-done .ensures)
+    ∙ not-true (c .before .is-done .result) (c .if1 .taken) in
     rw (sector-unerased (a .sector) (a .seq) (records-of e) (first-flash e cut) failed) (e .erase .ensures cut)
 
 write-records-requires : tie.Need-write-records-requires
@@ -96,7 +122,10 @@ returns-2 c = λ cut.
     let w = c .before .before .before .before in
     let e = erased-at w in
     let a = start-of e .args in
-    let failed = ap (λ (o : Stepped). isDone (o .answer)) (filled-is w cut) ∙ sym (c .before .is-done2 .ensures) ∙ not-true (c .before .is-done2 .result) (c .if2 .taken) in
+    let failed =
+    ap (λ (o : Stepped). isDone (o .answer)) (filled-is w cut)
+    ∙ sym (c .before .is-done2 .ensures)
+    ∙ not-true (c .before .is-done2 .result) (c .if2 .taken) in
     rw (sector-unfilled (a .sector) (a .seq) (records-of e) (first-flash e cut) (erase-done w cut) failed) (filled-shown w cut)
 
 encode-header-requires : tie.Need-encode-header-requires
@@ -118,9 +147,17 @@ returns-3 c = λ cut.
     let e = erased-at w in
     let a = start-of e .args in
     let d = q .before .before .before .before in
-    let done = ap (λ (o : Stepped). isDone (o .answer)) (filled-is w cut) ∙ sym (d .is-done2 .ensures) ∙ not-false (d .is-done2 .result) (q .before .before .before .if2 .left) in
+    let done =
+    ap (λ (o : Stepped). isDone (o .answer)) (filled-is w cut)
+    ∙ sym (d .is-done2 .ensures)
+    ∙ not-false (d .is-done2 .result) (q .before .before .before .if2 .left) in
     let shown = q .program .ensures (filling w cut .flash .cut) in
-    rw (sector-headed (a .sector) (a .seq) (records-of e) (first-flash e cut) (erase-done w cut) done, ap (λ (x : Stepped). x .flash) (filled-is w cut), ← q .before .encode-header .ensures) shown
+    rw (
+      sector-headed (a .sector) (a .seq) (records-of e) (first-flash e cut) (erase-done w cut) done,
+      ap (λ (x : Stepped). x .flash) (filled-is w cut),
+      ← q .before .encode-header .ensures,
+    )
+    shown
 
 pub write-sector-spec : {M : Type 1} → statement M
 write-sector-spec =

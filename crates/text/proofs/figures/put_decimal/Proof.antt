@@ -74,7 +74,8 @@ returns : tie.Need-returns Inv-loop μ-loop
 returns c =
     let p = c .before .before in
     let a = p .before .before .before .before .before .before .before .args in
-    subst (λ (t : List ℕ). Puts (a .out .now) (a .at) t (p .put-bytes .last .0) (p .put-bytes .result)) (text-is (p .before .before .before .before)) (p .put-bytes .ensures)
+    subst (λ (t : List ℕ). Puts (a .out .now) (a .at) t (p .put-bytes .last .0) (p .put-bytes .result))
+    (text-is (p .before .before .before .before)) (p .put-bytes .ensures)
 
 pub put-decimal-spec : {M : Type 1} → statement M
 put-decimal-spec =

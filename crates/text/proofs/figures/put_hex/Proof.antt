@@ -34,8 +34,12 @@ returns c =
     let s = h1 .before .before .before in
     let a = s .args in
     put-then (a .out .now) (a .at) (hexDigit (a .byte / 16) ∷ []) (hexDigit (a .byte % 16) ∷ []) (omega (arith, s .pre))
-    (subst (λ (d : ℕ). Puts (a .out .now) (a .at) (d ∷ []) (first .put-byte .last .0) (first .put-byte .result)) (h1 .hex-digit .ensures) (first .put-byte .ensures))
-    (subst (λ (d : ℕ). Puts (first .put-byte .last .0) (first .put-byte .result) (d ∷ []) (second .put-byte2 .last .0) (second .put-byte2 .result)) (h2 .hex-digit2 .ensures) (second .put-byte2 .ensures))
+    (subst (λ (d : ℕ). Puts (a .out .now) (a .at) (d ∷ []) (first .put-byte .last .0) (first .put-byte .result)) (h1 .hex-digit .ensures)
+    (first .put-byte .ensures))
+    (subst
+    (λ (d : ℕ).
+    Puts (first .put-byte .last .0) (first .put-byte .result) (d ∷ []) (second .put-byte2 .last .0) (second .put-byte2 .result))
+    (h2 .hex-digit2 .ensures) (second .put-byte2 .ensures))
 
 pub put-hex-spec : {M : Type 1} → statement M
 put-hex-spec =

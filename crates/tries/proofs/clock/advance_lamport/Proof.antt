@@ -20,7 +20,8 @@ abbrev start-of : tie.After-enter → tie.Start
 start-of e = e .before .before .before
 
 -- what the call found
-is-entry : (e : tie.After-enter) → let a = start-of e .args in e .enter .result ≡ entryOf (sectorsIn (length (a .image .now))) (a .log) true valueTag lamport
+is-entry : (e : tie.After-enter) →
+    let a = start-of e .args in e .enter .result ≡ entryOf (sectorsIn (length (a .image .now))) (a .log) true valueTag lamport
 is-entry e = let a = start-of e .args in e .enter .ensures ∙ ap (λ (n : ℕ). entryOf n (a .log) true valueTag lamport) (e .before .sectors .ensures)
 
 sectors-requires : tie.Need-sectors-requires
@@ -45,8 +46,12 @@ perform-requires c κs =
     let s = start-of e in
     let a = s .args in
     let x = e .enter .result in
-    call-ready (a .image .now) (a .log) (a .plan) true valueTag lamport x (is-entry e) (λ (held : OptRaw) (room : Bool). advanceDecision held room (a .seen)) (e .before .sectors .result) (c .unused .result) (d .advance-from .result)
-    (e .before .sectors .ensures) (c .unused .ensures) (d .advance-from .ensures ∙ ap (λ (m : ℕ). advanceFrom m (e .enter .result .room)) (d .before .larger .ensures)) (whole-log (a .log) (s .good .1 .0)) (advance-keyed (seenOf (x .held) (a .seen)) (x .room))
+    call-ready (a .image .now) (a .log) (a .plan) true valueTag lamport x (is-entry e)
+    (λ (held : OptRaw) (room : Bool). advanceDecision held room (a .seen)) (e .before .sectors .result) (c .unused .result)
+    (d .advance-from .result)
+    (e .before .sectors .ensures) (c .unused .ensures)
+    (d .advance-from .ensures ∙ ap (λ (m : ℕ). advanceFrom m (e .enter .result .room)) (d .before .larger .ensures))
+    (whole-log (a .log) (s .good .1 .0)) (advance-keyed (seenOf (x .held) (a .seen)) (x .room))
 
 same-length : tie.Need-same-length
 same-length c = search needs
@@ -59,8 +64,12 @@ returns c =
     let d = u .before .before in
     let e = d .before .before .before in
     let a = start-of e .args in
-    call-meets (a .image .now) (a .log) (a .plan) true valueTag lamport (e .enter .result) (is-entry e) (λ (held : OptRaw) (room : Bool). advanceDecision held room (a .seen)) (e .before .sectors .result) (u .unused .result) (d .advance-from .result)
-    (e .before .sectors .ensures) (u .unused .ensures) (d .advance-from .ensures ∙ ap (λ (m : ℕ). advanceFrom m (e .enter .result .room)) (d .before .larger .ensures)) (p .perform .result) (p .perform .last .0) (p .perform .ensures)
+    call-meets (a .image .now) (a .log) (a .plan) true valueTag lamport (e .enter .result) (is-entry e)
+    (λ (held : OptRaw) (room : Bool). advanceDecision held room (a .seen)) (e .before .sectors .result) (u .unused .result)
+    (d .advance-from .result)
+    (e .before .sectors .ensures) (u .unused .ensures)
+    (d .advance-from .ensures ∙ ap (λ (m : ℕ). advanceFrom m (e .enter .result .room)) (d .before .larger .ensures))
+    (p .perform .result) (p .perform .last .0) (p .perform .ensures)
 
 pub advance-lamport-spec : {M : Type 1} → statement M
 advance-lamport-spec =

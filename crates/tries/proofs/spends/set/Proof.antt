@@ -20,8 +20,14 @@ abbrev start-of : tie.After-enter → tie.Start
 start-of e = e .before .before .before .before
 
 -- what the call found
-is-entry : (e : tie.After-enter) → let a = start-of e .args in e .enter .result ≡ entryOf (sectorsIn (length (a .image .now))) (a .log) (isCredential (a .credential)) counterTag (a .credential)
-is-entry e = let a = start-of e .args in e .enter .ensures ∙ ap₂ (λ (n : ℕ) (known : Bool). entryOf n (a .log) known counterTag (a .credential)) (e .before .before .sectors .ensures) (e .before .is-credential .ensures)
+is-entry : (e : tie.After-enter) →
+    let a = start-of e .args in
+    e .enter .result ≡ entryOf (sectorsIn (length (a .image .now))) (a .log) (isCredential (a .credential)) counterTag (a .credential)
+is-entry e =
+    let a = start-of e .args in
+    e .enter .ensures
+    ∙ ap₂ (λ (n : ℕ) (known : Bool). entryOf n (a .log) known counterTag (a .credential)) (e .before .before .sectors .ensures)
+    (e .before .is-credential .ensures)
 
 sectors-requires : tie.Need-sectors-requires
 sectors-requires c κs = search needs
@@ -45,8 +51,11 @@ perform-requires c κs =
     let s = start-of e in
     let a = s .args in
     let x = e .enter .result in
-    call-ready (a .image .now) (a .log) (a .plan) (isCredential (a .credential)) counterTag (a .credential) x (is-entry e) (λ (held : OptRaw) (room : Bool). setDecision held room (a .credential) (a .tries)) (e .before .before .sectors .result) (c .unused .result) (d .set-decision .result)
-    (e .before .before .sectors .ensures) (c .unused .ensures) (d .set-decision .ensures) (whole-log (a .log) (s .good .1 .0)) (set-keyed (x .held) (x .room) (a .credential) (a .tries))
+    call-ready (a .image .now) (a .log) (a .plan) (isCredential (a .credential)) counterTag (a .credential) x (is-entry e)
+    (λ (held : OptRaw) (room : Bool). setDecision held room (a .credential) (a .tries)) (e .before .before .sectors .result)
+    (c .unused .result) (d .set-decision .result)
+    (e .before .before .sectors .ensures) (c .unused .ensures) (d .set-decision .ensures) (whole-log (a .log) (s .good .1 .0))
+    (set-keyed (x .held) (x .room) (a .credential) (a .tries))
 
 same-length : tie.Need-same-length
 same-length c = search needs
@@ -59,8 +68,11 @@ returns c =
     let d = u .before .before in
     let e = d .before .before in
     let a = start-of e .args in
-    call-meets (a .image .now) (a .log) (a .plan) (isCredential (a .credential)) counterTag (a .credential) (e .enter .result) (is-entry e) (λ (held : OptRaw) (room : Bool). setDecision held room (a .credential) (a .tries)) (e .before .before .sectors .result) (u .unused .result) (d .set-decision .result)
-    (e .before .before .sectors .ensures) (u .unused .ensures) (d .set-decision .ensures) (p .perform .result) (p .perform .last .0) (p .perform .ensures)
+    call-meets (a .image .now) (a .log) (a .plan) (isCredential (a .credential)) counterTag (a .credential) (e .enter .result) (is-entry e)
+    (λ (held : OptRaw) (room : Bool). setDecision held room (a .credential) (a .tries)) (e .before .before .sectors .result)
+    (u .unused .result) (d .set-decision .result)
+    (e .before .before .sectors .ensures) (u .unused .ensures) (d .set-decision .ensures) (p .perform .result) (p .perform .last .0)
+    (p .perform .ensures)
 
 pub set-spec : {M : Type 1} → statement M
 set-spec =

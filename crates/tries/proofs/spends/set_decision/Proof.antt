@@ -33,10 +33,15 @@ module _ (w : tie.After-writes) where
       let r = k .before in
       let a = start-of .args in
       w .writes .ensures
-      ∙ ap (λ (x : Raw). write (a .room) x 0) (k .counter-record .ensures ∙ ap (counterRecord (a .credential)) (r .after-reset .ensures ∙ ap (λ (s : CounterState). resetOf s (a .tries)) (r .before .start .ensures)))
+      ∙ ap (λ (x : Raw). write (a .room) x 0)
+      (k .counter-record .ensures
+      ∙ ap (counterRecord (a .credential))
+      (r .after-reset .ensures ∙ ap (λ (s : CounterState). resetOf s (a .tries)) (r .before .start .ensures)))
 
   -- the decision, by whether there are so many tries already
-  by : (b : Bool) → (start-of .args .held .some && eqb (remainingOf counter) (start-of .args .tries)) ≡ b → setDecision (start-of .args .held) (start-of .args .room) (start-of .args .credential) (start-of .args .tries) ≡ pick b (give 0) written
+  by : (b : Bool) → (start-of .args .held .some && eqb (remainingOf counter) (start-of .args .tries)) ≡ b
+      → setDecision (start-of .args .held) (start-of .args .room) (start-of .args .credential) (start-of .args .tries)
+      ≡ pick b (give 0) written
   unfolding setDecision
   by b e = ap (λ (x : Bool). pick x (give 0) written) e
 
@@ -65,7 +70,9 @@ answers-requires : tie.Need-answers-requires
 answers-requires c κs = search needs
 
 -- where a record is held
-left : (r : tie.After-remaining) (b : Bool) → let w = r .before .before .before in let a = start-of w .args in eqb (r .remaining .result) (a .tries) ≡ b → (a .held .some && eqb (remainingOf (counter w)) (a .tries)) ≡ b
+left : (r : tie.After-remaining) (b : Bool) →
+    let w = r .before .before .before in
+    let a = start-of w .args in eqb (r .remaining .result) (a .tries) ≡ b → (a .held .some && eqb (remainingOf (counter w)) (a .tries)) ≡ b
 left r b e =
     let l = r .before in
     let w = l .before .before in

@@ -15,14 +15,18 @@ use Rattle.tries.proofs.spends.spend_from.Statement.{statement}
 use Rattle.tries.proofs.spends.spend_from.Tie as tie
 
 -- where tries are left, by what follows a failure
-spent : (f : tie.After-after-failure) (x : Next) → f .after-failure .result ≡ x → let a = f .before .before .before .args in spentBy (a .room) (a .credential) (f .before .before .remaining .result) x ≡ spendFrom (a .s) (a .room) (a .credential)
+spent : (f : tie.After-after-failure) (x : Next) → f .after-failure .result ≡ x →
+    let a = f .before .before .before .args in
+    spentBy (a .room) (a .credential) (f .before .before .remaining .result) x ≡ spendFrom (a .s) (a .room) (a .credential)
 unfolding spendFrom
 spent f x e =
     let l = f .before in
     let r = l .before in
     let a = r .before .args in
     ap₂ (λ (n : ℕ) (y : Next). spentBy (a .room) (a .credential) n y) (r .remaining .ensures) (sym e ∙ f .after-failure .ensures)
-    ∙ sym (ap (λ (b : Bool). pick b (give 0) (spentBy (a .room) (a .credential) (remainingOf (a .s)) (failedOf (a .s)))) (ap (λ (n : ℕ). eqb n 0) (sym (r .remaining .ensures)) ∙ ne-eqb (r .remaining .result) 0 (l .if1 .left)))
+    ∙ sym
+    (ap (λ (b : Bool). pick b (give 0) (spentBy (a .room) (a .credential) (remainingOf (a .s)) (failedOf (a .s))))
+    (ap (λ (n : ℕ). eqb n 0) (sym (r .remaining .ensures)) ∙ ne-eqb (r .remaining .result) 0 (l .if1 .left)))
 
 remaining-requires : tie.Need-remaining-requires
 remaining-requires c κs = search needs
@@ -36,7 +40,9 @@ returns c =
     let r = c .before .before in
     let a = r .before .args in
     c .answers .ensures
-    ∙ sym (ap (λ (b : Bool). pick b (give 0) (spentBy (a .room) (a .credential) (remainingOf (a .s)) (failedOf (a .s)))) (ap (λ (n : ℕ). eqb n 0) (sym (r .remaining .ensures)) ∙ eq-eqb (r .remaining .result) 0 (c .before .if1 .taken)))
+    ∙ sym
+    (ap (λ (b : Bool). pick b (give 0) (spentBy (a .room) (a .credential) (remainingOf (a .s)) (failedOf (a .s))))
+    (ap (λ (n : ℕ). eqb n 0) (sym (r .remaining .ensures)) ∙ eq-eqb (r .remaining .result) 0 (c .before .if1 .taken)))
 
 after-failure-requires : tie.Need-after-failure-requires
 after-failure-requires c κs = search needs
