@@ -49,7 +49,8 @@ put-keyed held room credential new =
     let wrote = keyed-write counterTag credential room (counterRecord credential new) 0 refl refl in
     let pk = keyed-pick counterTag credential room in
     pk (held .some) (putOver new old written) written
-    (pk (ltb (new .total) (old .total)) (refuse IntegrityFailure) (pick (sameCounter new old) (give 0) written) (silent counterTag credential room (refuse IntegrityFailure) refl)
+    (pk (ltb (new .total) (old .total)) (refuse IntegrityFailure) (pick (sameCounter new old) (give 0) written)
+    (silent counterTag credential room (refuse IntegrityFailure) refl)
     (pk (sameCounter new old) (give 0) written (silent counterTag credential room (give 0) refl) wrote))
     wrote
 
@@ -61,7 +62,8 @@ value-keyed held room id new =
     let wrote = keyed-write valueTag id room (valueRecord id new) 0 refl refl in
     let pk = keyed-pick valueTag id room in
     pk (held .some) (valueOver id new old written) written
-    (pk (isMonotonic valueTag id && ltb new old) (refuse IntegrityFailure) (pick (eqb new old) (give 0) written) (silent valueTag id room (refuse IntegrityFailure) refl)
+    (pk (isMonotonic valueTag id && ltb new old) (refuse IntegrityFailure) (pick (eqb new old) (give 0) written)
+    (silent valueTag id room (refuse IntegrityFailure) refl)
     (pk (eqb new old) (give 0) written (silent valueTag id room (give 0) refl) wrote))
     wrote
 

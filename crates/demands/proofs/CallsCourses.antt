@@ -161,7 +161,12 @@ module _ (image : List ℕ) (log : Log) (plan : Plan) where
         let zero-seq = eqb-true (new .«head_seq») 0 (first (eqb (new .«head_seq») 0) (eqb (new .«head_slot») 0) firstly) in
         let writing = anchor-first-writes new (ap isDone (anchor-made new (omega arith))) in
         subst (λ (z : State). Course (performed (whenActive z (made [])) n (logOf z (emptied .next) []) (emptied .flash))) (sym (fresh .state-is))
-        (subst (λ (b : Bool). Course (pick b (appended (Active (fresh .sector) (fresh .seq) 1) n (made [] .rec) (made [] .value) (logOf (Active (fresh .sector) (fresh .seq) 1) (emptied .next) []) (emptied .flash))
+        (subst
+        (λ (b : Bool).
+        Course
+        (pick b
+        (appended (Active (fresh .sector) (fresh .seq) 1) n (made [] .rec) (made [] .value)
+        (logOf (Active (fresh .sector) (fresh .seq) 1) (emptied .next) []) (emptied .flash))
         (record {
           answer = made [] .answer;
           value = made [] .value;

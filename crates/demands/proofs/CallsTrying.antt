@@ -74,7 +74,9 @@ pub spend-decided : (room : Bool) (credential : ℕ) (s : CounterState)
 unfolding spendFrom failedOf
 spend-decided room credential s =
     by-test P (eqb (remainingOf s) 0) _ _ (λ _. gives 0)
-    (λ _. by-test (λ (x : Next). P (spentBy room credential (remainingOf s) x)) (eqb (s .total) totalMax) (next.Refused WriteError) (next.State (oneMore s)) (λ _. refuses WriteError refl)
+    (λ _.
+    by-test (λ (x : Next). P (spentBy room credential (remainingOf s) x)) (eqb (s .total) totalMax) (next.Refused WriteError)
+    (next.State (oneMore s)) (λ _. refuses WriteError refl)
     (λ e. decided-write room (counterRecord credential (oneMore s)) (s .total ≡ totalMax → ⊥) (remainingOf s) (eqb-false (s .total) totalMax e)))
   where
     P : Decision → Type 0

@@ -34,7 +34,9 @@ unfolding played AllTyped Lasts
 played-agrees [] w i typed lasts = i
 played-agrees (m ∷ ms) w i typed lasts =
     played-agrees ms (afterwards (outcome m w))
-    (safe-agrees (sectorsIn (length (w .image))) (Unmatched (appendsTo (m .call) (w .image) (w .log) (m .plan)) (recordOf (m .call) (recordsOf (w .log)))) (NoEffect (m .call) (w .log)) (tableAfter (m .call) (w .image) (w .log)) (outcome m w) (lasts .0)
+    (safe-agrees (sectorsIn (length (w .image)))
+    (Unmatched (appendsTo (m .call) (w .image) (w .log) (m .plan)) (recordOf (m .call) (recordsOf (w .log))))
+    (NoEffect (m .call) (w .log)) (tableAfter (m .call) (w .image) (w .log)) (outcome m w) (lasts .0)
     (call-safe (w .image) (w .log) i (m .call) (typed .0) (m .plan)))
     (typed .1) (lasts .1)
 

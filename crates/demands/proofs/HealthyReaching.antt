@@ -190,7 +190,9 @@ module _ (n s seq : ℕ) (r : Raw) (old : List Raw) (w : Writable r old) (next :
       go true e false k false l =
           let several = eqb-false n 1 l in
           inl
-          (λ f i o h. reached-table f (run f) (sectorAfter n s) next (length (joined r old) + 1) (next + 1) (16 * (length (joined r old) + 1)) 4096 (joined r old)
+          (λ f i o h.
+          reached-table f (run f) (sectorAfter n s) next (length (joined r old) + 1) (next + 1) (16 * (length (joined r old) + 1)) 4096
+          (joined r old)
           (append-rotated n s seq r old w next head (eqb-true head 256 e) f (omega (arith, g .found .placed .within))
           (eqb-false next seqMax k) o (on f i) h))
 

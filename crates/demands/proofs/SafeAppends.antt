@@ -165,7 +165,8 @@ module _ (n s seq : ℕ) (r : Raw) (old : List Raw) (w : Writable r old) (next :
         go (inl e) =
             let sixteen = slot-sixteen seq fits r (w .whole) in
             inl
-            (here-put (cutAt k slot) (cut-length slot sixteen k (omega arith)) (cut-bytes slot sixteen k (omega arith) (slot-bytes seq fits r (w .whole))) left is old (g .proper)
+            (here-put (cutAt k slot) (cut-length slot sixteen k (omega arith))
+            (cut-bytes slot sixteen k (omega arith) (slot-bytes seq fits r (w .whole))) left is old (g .proper)
             (slot-none seq (cutAt k slot) (these old) e))
         go (inr e) = inr (here-whole left (is ∙ ap (λ (l : List ℕ). withSlot s head l image) e))
 
@@ -192,7 +193,9 @@ module _ (n s seq : ℕ) (r : Raw) (old : List Raw) (w : Writable r old) (next :
     tries-still zero head last f c h = record { fails = h; same = refl; cut = c }
     tries-still (suc m) head last f c h =
         by-test (StillTried f) (eqb head 256) _ _ (λ _. record { fails = h; same = refl; cut = c })
-        (λ _. by-test (StillTried f) (isDone (program s head slot f .answer)) _ _ (λ d. absurd (false≢true (sym (program-still f c s head slot .fails) ∙ d)))
+        (λ _.
+        by-test (StillTried f) (isDone (program s head slot f .answer)) _ _
+        (λ d. absurd (false≢true (sym (program-still f c s head slot .fails) ∙ d)))
         (λ _.
         let e = program-still f c s head slot in
         still-on f (program s head slot f .flash) _ (program s head slot f .answer) _ e

@@ -78,7 +78,8 @@ module _ (decide : Log → Decision) (sound : (l : Log) → decide l .write ≡ 
         subst (λ (t : Table). SafeCall n (Unmatched (l .state) r) (λ x. x ≡ seen l) t (performed (decide l) n l (o .flash)))
         (decided-table l (d .1)) here in
         rw (d .0)
-        (safe-weaker n (Unmatched (l .state) r) (Unmatched (l .state) r) (λ x. x ≡ seen l) (OrEmpty log) (holding (joined r [])) (performed (decide l) n l (o .flash))
+        (safe-weaker n (Unmatched (l .state) r) (Unmatched (l .state) r) (λ x. x ≡ seen l) (OrEmpty log) (holding (joined r []))
+        (performed (decide l) n l (o .flash))
         (λ _ u. u) (λ x e. inr (ap tableIn e ∙ d .1)) there)
     then-safe o (lasted c z i (inr d)) = rw (d .0) (lasted c z i (inr (d .0, inl (d .1))))
     then-safe o (stopped c e k) = rw e (stopped c e (λ _. go (k tt)))

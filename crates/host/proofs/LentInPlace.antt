@@ -302,11 +302,13 @@ module _ (D : Answering) {M : Type 1} (𝓤 : URA M) (H : Heap 𝓤) (A : Atoms 
             → Room u8 (length ys) → {after : List Opd} → Opds (Go {0}) W AtCall E after (flat (typesAt ss (κ, tt)) us)
             → ((r : D .row .Denot) (v : Val) (zs : List ℕ) (p : Plan) → Ψ (κ, tt) ys x h t r zs → length zs ≡ length ys → p ≡ D .plan-of r
             → Seq (Go {0}) W
-            (‵ (froom P′.mir l₉ 0) ∷ ‵ (froom (imageTy erased) l₈ 0) ∷ ‵ (froom (tyRef erased mut (tyInt w8)) l₇ 0) ∷ ‵ (froom (D .single .ty) l₆ 0) ∷ raw (⋆ 𝓤 H A (Ends r v zs p))
+            (‵ (froom P′.mir l₉ 0) ∷ ‵ (froom (imageTy erased) l₈ 0) ∷ ‵ (froom (tyRef erased mut (tyInt w8)) l₇ 0)
+            ∷ ‵ (froom (D .single .ty) l₆ 0) ∷ raw (⋆ 𝓤 H A (Ends r v zs p))
             ∷ ‵ (fdies P′.mir l₉) ∷ ‵ (fdies (imageTy erased) l₈) ∷ ‵ (fdies (tyRef erased mut (tyInt w8)) l₇)
             ∷ ‵ (fdies (D .single .ty) l₆) ∷ Δ) (frees F (prop (Kf v))))
             → Seq (Go {0}) W
-            (‵ (froom P′.mir l₉ 0) ∷ ‵ (froom (imageTy erased) l₈ 0) ∷ ‵ (froom (tyRef erased mut (tyInt w8)) l₇ 0) ∷ ‵ (froom (D .single .ty) l₆ 0) ∷ ‵ (fat fullShare planRef l₃ 0 (vptr b₂ o₂)) ∷ ‵ (fat fullShare (S .ty) l₂ 0 (S .val x))
+            (‵ (froom P′.mir l₉ 0) ∷ ‵ (froom (imageTy erased) l₈ 0) ∷ ‵ (froom (tyRef erased mut (tyInt w8)) l₇ 0)
+            ∷ ‵ (froom (D .single .ty) l₆ 0) ∷ ‵ (fat fullShare planRef l₃ 0 (vptr b₂ o₂)) ∷ ‵ (fat fullShare (S .ty) l₂ 0 (S .val x))
             ∷ ‵ (fat fullShare (imageTy (named 0)) l₁ 0 slice) ∷ ‵ (froom (D .single .ty) l₀ 0) ∷ (‵ (flft κ q) ⊛ ‵ (flft κ′ q′) ⊛ ‵ ftrue)
             ∷ ‵ (MutSlice (named 0) κ u8 .own image (slice ∷ [])) ∷ ‵ (MutRef (named 1) κ′ PlanR .own (L .plan) (vptr b₂ o₂ ∷ []))
             ∷ ‵ plains

@@ -75,7 +75,19 @@ module _ (D : Answering) (Y Z : RattleType) (J : Lending D (Y ∷ Z ∷ [])) whe
         (sliceOf L ∷ J .single .val x ∷ vptr (L .plan .ptr .0) (L .plan .ptr .1) ∷ J .singles .0 .val y ∷ J .singles .1 .0 .val z ∷ [])
         _ $
         alloc1 !
-        (λ l₀. alloc1 ! (λ l₁. alloc1 ! (λ l₂. alloc1 ! (λ l₃. alloc1 ! (λ l₄. alloc1 ! (λ l₅. alloc1 ! (λ l₆. alloc1 ! (λ l₇. alloc1 ! (λ l₈. alloc1 ! (λ l₉. alloc0 ! $ params1 ! $
+        (λ l₀.
+        alloc1 !
+        (λ l₁.
+        alloc1 !
+        (λ l₂.
+        alloc1 !
+        (λ l₃.
+        alloc1 !
+        (λ l₄.
+        alloc1 !
+        (λ l₅.
+        alloc1 !
+        (λ l₆. alloc1 ! (λ l₇. alloc1 ! (λ l₈. alloc1 ! (λ l₉. alloc0 ! $ params1 ! $
         pass1 ! (init ! 16 refl (tt, (tt, (record { fits = room .0 }, tt)))) $
         pass1 ! (init ! 14 refl (typed 𝓤 H A W (J .X) (J .single) x _ is)) $ pass1 ! (init ! 12 refl (tt, tt)) $
         pass1 ! (init ! 10 refl (typed 𝓤 H A W Y (J .singles .0) y _ (are .0))) $

@@ -65,7 +65,8 @@ module _ (D : Answering) (Rs : List RattleType) (J : Lending D Rs) where
           r v zs p (J .so (L .image .now) x (L .plan .now) (passed 2 Rs κs t) r zs e p e′) l
 
     pub meets-by : (f : Fn) (𝓣 : Tables 𝓤 H)
-        → ((L : Loans) (x : J .X .Denot) (t : Denots (typesAt (plains 2 Rs) (L .κ, (L .κ′, tt)))) → Room u8 (length (L .image .now)) → Is (J .X) x (J .single .val x ∷ [])
+        → ((L : Loans) (x : J .X .Denot) (t : Denots (typesAt (plains 2 Rs) (L .κ, (L .κ′, tt)))) → Room u8 (length (L .image .now))
+        → Is (J .X) x (J .single .val x ∷ [])
         → Are (typesAt (plains 2 Rs) (L .κ, (L .κ′, tt))) (Ises (typesAt (plains 2 Rs) (L .κ, (L .κ′, tt)))) t
         (valss (typesAt (plains 2 Rs) (L .κ, (L .κ′, tt))) (spells 2 Rs (J .singles) (L .κ, (L .κ′, tt))) t)
         → ent 𝓤

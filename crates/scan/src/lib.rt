@@ -92,7 +92,7 @@ fn next_of(state: State) -> u32
             sector: _,
             seq,
             head: _,
-        } => { if seq < SEQ_MAX { seq + 1 } else { SEQ_MAX } }
+        } => if seq < SEQ_MAX { seq + 1 } else { SEQ_MAX },
         State::Unformatted => 1,
         State::Failed => 1,
     }

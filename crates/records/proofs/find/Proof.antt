@@ -40,7 +40,8 @@ returns c =
     let tags = take (a .count) (a .tags .now) in
     let ids = take (a .count) (a .ids .now) in
     sym
-    (found-here (a .tag) (a .id) tags ids (loop .i) (omega (arith, tags-long (c .before .before .before .before .before .before))) (omega (arith, ids-long (c .before .before .before .before .before .before)))
+    (found-here (a .tag) (a .id) tags ids (loop .i) (omega (arith, tags-long (c .before .before .before .before .before .before)))
+    (omega (arith, ids-long (c .before .before .before .before .before .before)))
     (getD-take (a .count) (a .tags .now) (loop .i) 0 (omega arith) ∙ c .before .before .if1 .taken)
     (getD-take (a .count) (a .ids .now) (loop .i) 0 (omega arith) ∙ c .if2 .taken))
     ∙ loop .inv .1

@@ -225,7 +225,47 @@ module _ {M : Type 1} (𝓤 : URA M) (H : Heap 𝓤) (A : Atoms 𝓤) (W : Given
         ∵ enter ! C Λ code.function
         (s ∷ log-one .val log ∷ LL.val P.the-type P′.the-laws h ∷ vint w8 credential ∷ vint w8 current ∷ vint w64 seen ∷ []) _ $
         alloc1 !
-        (λ l₀. alloc1 ! (λ l₁. alloc1 ! (λ l₂. alloc1 ! (λ l₃. alloc1 ! (λ l₄. alloc1 ! (λ l₅. alloc1 ! (λ l₆. alloc1 ! (λ l₇. alloc1 ! (λ l₈. alloc1 ! (λ l₉. alloc1 ! (λ l₁₀. alloc1 ! (λ l₁₁. alloc1 ! (λ l₁₂. alloc1 ! (λ l₁₃. alloc1 ! (λ l₁₄. alloc1 ! (λ l₁₅. alloc1 ! (λ l₁₆. alloc0 ! $ params1 ! $
+        (λ l₀.
+        alloc1 !
+        (λ l₁.
+        alloc1 !
+        (λ l₂.
+        alloc1 !
+        (λ l₃.
+        alloc1 !
+        (λ l₄.
+        alloc1 !
+        (λ l₅.
+        alloc1 !
+        (λ l₆.
+        alloc1 !
+        (λ l₇.
+        alloc1 !
+        (λ l₈.
+        alloc1 !
+        (λ l₉.
+        alloc1 !
+        (λ l₁₀.
+        alloc1 !
+        (λ l₁₁.
+        alloc1 !
+        (λ l₁₂.
+        alloc1 !
+        (λ l₁₃.
+        alloc1 !
+        (λ l₁₄.
+        alloc1
+        !
+        (λ l₁₅.
+        alloc1
+        !
+        (λ l₁₆.
+        alloc0
+        !
+        $
+        params1
+        !
+        $
         pass1 ! (init ! 30 refl (tt, (tt, (record { fits = room .0 }, tt)))) $
         pass1 ! (init ! 28 refl (typed 𝓤 H A W LogR log-one log _ is-log)) $
         pass1 ! (init ! 26 refl (typed 𝓤 H A W PlanR plan-one h _ is-plan)) $
@@ -253,7 +293,16 @@ module _ {M : Type 1} (𝓤 : URA M) (H : Heap 𝓤) (A : Atoms 𝓤) (W : Given
         (lends-image 𝓤 H A W image κ q (ν ∷ [])) $
         await ! tt $ pick ! (λ δ. split ! $
         lft-new ! tt
-        (λ μ. move ! (23 ∷ []) $ use1 W (later (some (λ (ε : GName). ‵ (MutRef (named 1) (μ ∷ []) PlanR .own (plan-at l₇ ε h) (vptr l₇ 0 ∷ [])) ⊛ ‵ (flent (μ ∷ []) (Body (mem PlanR) l₇ 0 ε))))) (lends-local 𝓤 H A W l₇ (μ ∷ []) h is-plan) $ await ! tt $ pick ! (λ ε. split ! $
+        (λ μ.
+        move ! (23 ∷ []) $
+        use1 W
+        (later
+        (some
+        (λ (ε : GName).
+        ‵ (MutRef (named 1) (μ ∷ []) PlanR .own (plan-at l₇ ε h) (vptr l₇ 0 ∷ [])) ⊛ ‵
+        (flent (μ ∷ []) (Body (mem PlanR) l₇ 0 ε)))))
+        (lends-local 𝓤 H A W l₇ (μ ∷ []) h is-plan) $
+        await ! tt $ pick ! (λ ε. split ! $
         -- [the plan's reference; what comes back of it; its token; the image; what comes back of it; its token; …; _16; …]: the number
         owned ! u64 (Is u64) (uint-makes 𝓤 H A W w64) seen _ is-seen $ nothing ! $ move ! (1 ∷ 0 ∷ []) $ fjoin ! $ move ! (1 ∷ 0 ∷ []) $
         fjoin ! $ owned ! LogR (Is LogR) (LL.makes Lg.the-type Lg′.the-plain 𝓤 H A) log _ is-log $ fjoin ! $ move ! (3 ∷ 0 ∷ []) $ fjoin ! $
@@ -322,7 +371,16 @@ module _ {M : Type 1} (𝓤 : URA M) (H : Heap 𝓤) (A : Atoms 𝓤) (W : Given
         (from ! (stop !)) (init ! 7 refl (tt, (tt, (record { fits = room .0 }, tt)))) $
         assigns ! (addr ! (from ! (stop !))) (from ! (stop !)) (init ! 5 refl (tt, tt)) $
         lft-new ! tt
-        (λ μ₂. move ! (3 ∷ []) $ use1 W (later (some (λ (ε₂ : GName). ‵ (MutRef (named 1) (μ₂ ∷ []) PlanR .own (plan-at l₇ ε₂ (t .1 .1 .0)) (vptr l₇ 0 ∷ [])) ⊛ ‵ (flent (μ₂ ∷ []) (Body (mem PlanR) l₇ 0 ε₂))))) (lends-local 𝓤 H A W l₇ (μ₂ ∷ []) (t .1 .1 .0) is-left) $ await ! tt $ pick ! (λ ε₂. split ! $
+        (λ μ₂.
+        move ! (3 ∷ []) $
+        use1 W
+        (later
+        (some
+        (λ (ε₂ : GName).
+        ‵ (MutRef (named 1) (μ₂ ∷ []) PlanR .own (plan-at l₇ ε₂ (t .1 .1 .0)) (vptr l₇ 0 ∷ [])) ⊛ ‵
+        (flent (μ₂ ∷ []) (Body (mem PlanR) l₇ 0 ε₂)))))
+        (lends-local 𝓤 H A W l₇ (μ₂ ∷ []) (t .1 .1 .0) is-left) $
+        await ! tt $ pick ! (λ ε₂. split ! $
         owned ! u8 (Is u8) (uint-makes 𝓤 H A W w8) current _ is-current $ nothing ! $ move ! (1 ∷ 0 ∷ []) $ fjoin ! $
         owned ! u8 (Is u8) (uint-makes 𝓤 H A W w8) credential _ is-credential $ fjoin ! $ move ! (1 ∷ 0 ∷ []) $ fjoin ! $
         owned ! LogR (Is LogR) (LL.makes Lg.the-type Lg′.the-plain 𝓤 H A) next (v₂ ∷ []) is-next $ fjoin ! $ move ! (3 ∷ 0 ∷ []) $ fjoin ! $
@@ -347,7 +405,11 @@ module _ {M : Type 1} (𝓤 : URA M) (H : Heap 𝓤) (A : Atoms 𝓤) (W : Given
         await ! tt $ pick ! (λ r₃.
         split ! $ move ! (1 ∷ []) $
         use1 W
-        (some (λ (w : Lasts spend.ended (κ, (μ₂ ∷ [], tt)) (image-at image (image .name) (t .0), (next, (plan-at l₇ ε₂ (t .1 .1 .0), (credential, (current, tt)))))). ‵ (lasts spend.ended (κ, (μ₂ ∷ [], tt)) (image-at image (image .name) (t .0), (next, (plan-at l₇ ε₂ (t .1 .1 .0), (credential, (current, tt))))) w)
+        (some
+        (λ (w : Lasts spend.ended (κ, (μ₂ ∷ [], tt)) (image-at image (image .name) (t .0), (next, (plan-at l₇ ε₂ (t .1 .1 .0), (credential, (current, tt)))))).
+        ‵
+        (lasts spend.ended (κ, (μ₂ ∷ [], tt))
+        (image-at image (image .name) (t .0), (next, (plan-at l₇ ε₂ (t .1 .1 .0), (credential, (current, tt))))) w)
         ⊛ raw (fact 𝓤 (ShowsDoneLent (spendOf (t .0) next (t .1 .1 .0) credential current) r₃ (w .0) (w .1 .1 .0))))) (id⊢ 𝓤 _) $ pick ! (λ w.
         split ! $ move ! (1 ∷ []) $
         heard ! (ShowsDoneLent (spendOf (t .0) next (t .1 .1 .0) credential current) r₃ (w .0) (w .1 .1 .0))
@@ -422,7 +484,10 @@ module _ {M : Type 1} (𝓤 : URA M) (H : Heap 𝓤) (A : Atoms 𝓤) (W : Given
       (walked 𝓤 H A attempt.ended stayed (attempt.clauses 𝓤 H A at-mem run) (WpFn 𝓤 H (𝓣 .C) (𝓣 .Λ) code.function)
       (λ κs. (slice-vals, ((λ x. log-one .val x ∷ []), (planVals, (uint-vals w8, (uint-vals w8, (uint-vals w64, tt)))))))
       (λ κs. (mut-slice-tells (named 0) (κs .0) u8, (log-one .tells, (plan-one .tells, (uint-tells w8, (uint-tells w8, (uint-tells w64, tt)))))))
-      (λ κs qs bounds a _ are. via 𝓤 _ (fst∗ 𝓤 _ (emp 𝓤)) (walk 𝓤 H A W at-mem run (κs .0) (qs .0) (a .0) (a .1 .0) (a .1 .1 .0) (a .1 .1 .1 .0) (a .1 .1 .1 .1 .0) (a .1 .1 .1 .1 .1 .0)
+      (λ κs qs bounds a _ are.
+      via 𝓤 _ (fst∗ 𝓤 _ (emp 𝓤))
+      (walk 𝓤 H A W at-mem run (κs .0) (qs .0) (a .0) (a .1 .0) (a .1 .1 .0) (a .1 .1 .1 .0) (a .1 .1 .1 .1 .0)
+      (a .1 .1 .1 .1 .1 .0)
       (𝓣 .C) (𝓣 .Λ) (fmOf 𝓤 H (W .laws) 𝓣) known-advance known-spend known-log known-both (are .0 .0 .1) (are .1 .0) (are .1 .1 .0)
       (are .1 .1 .1 .0) (are .1 .1 .1 .1 .0) (are .1 .1 .1 .1 .1 .0))))
 

@@ -116,7 +116,9 @@ returns-2 c =
     let e = u .before in
     let a = start-of e .args in
     rw (as-call (a .image .now) (a .log) (a .plan) (a .new) (e .enter .result) (is-entry e) (opens f false (l .if1 .left)))
-    (call-meets (a .image .now) (a .log) (a .plan) true anchorTag 0 (e .enter .result) (is-entry e) (λ (held : OptRaw) (room : Bool). anchorDecision held room (a .new)) (e .before .sectors .result) (u .unused .result) (d .anchor-decision .result)
+    (call-meets (a .image .now) (a .log) (a .plan) true anchorTag 0 (e .enter .result) (is-entry e)
+    (λ (held : OptRaw) (room : Bool). anchorDecision held room (a .new)) (e .before .sectors .result) (u .unused .result)
+    (d .anchor-decision .result)
     (e .before .sectors .ensures) (u .unused .ensures) (d .anchor-decision .ensures) (p .perform .result) (p .perform .last .0) (p .perform .ensures))
 
 pub put-anchor-spec : {M : Type 1} → statement M
