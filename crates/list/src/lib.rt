@@ -1,4 +1,4 @@
-// The listing of an image, as text in a lent buffer: its state and its records in decimal.
+// The listing of an image, as text in a lent buffer: a line with its state, then each record in decimal.
 use codec::Raw;
 use records::LIMIT;
 use records::State;
@@ -11,7 +11,7 @@ ghost use Rattle.list.specs.Listing.{number, activeLine, recordLine, rec
 // The bytes of the longest listing: 28 for the state, 48 for each record.
 pub const LONGEST: usize = 28 + 48 * LIMIT;
 
-// A number and the byte behind it.
+// Puts a number and the byte behind it.
 fn put_number(out: &mut [u8], at: usize, x: u64, behind: u8) -> usize
     requires { ⌜ at + length (number x behind) ≤ length (now out) ⌝ }
     ensures { λ r. ⌜ Puts (now (out .entry)) at (number x behind) (now (out .exit)) r ⌝ }
@@ -20,7 +20,7 @@ fn put_number(out: &mut [u8], at: usize, x: u64, behind: u8) -> usize
     text::put_byte(out, end, behind)
 }
 
-// The same of a byte.
+// Puts a number below 256 and the byte behind it.
 fn put_small(out: &mut [u8], at: usize, x: u8, behind: u8) -> usize
     requires { ⌜ at + length (number x behind) ≤ length (now out) ⌝ }
     ensures { λ r. ⌜ Puts (now (out .entry)) at (number x behind) (now (out .exit)) r ⌝ }
@@ -28,7 +28,7 @@ fn put_small(out: &mut [u8], at: usize, x: u8, behind: u8) -> usize
     put_number(out, at, x as u64, behind)
 }
 
-// The state of an active log.
+// Puts the line of an Active log: sector, seq, head and the number of records.
 fn put_active(out: &mut [u8], sector: u32, seq: u32, head: u32, count: usize) -> usize
     requires { ⌜ length (activeLine sector seq head count) ≤ length (now out) ⌝ }
     ensures { λ r. ⌜ Puts (now (out .entry)) 0 (activeLine sector seq head count) (now (out .exit)) r ⌝ }
@@ -40,7 +40,7 @@ fn put_active(out: &mut [u8], sector: u32, seq: u32, head: u32, count: usize) ->
     put_number(out, d, count as u64, b'\n')
 }
 
-// One record: tag, id and the bytes of its body.
+// Puts a record's line: tag, id and the ten bytes of its body.
 fn put_record(out: &mut [u8], at: usize, r: Raw) -> usize
     requires { ⌜ at + length (recordLine r) ≤ length (now out) ⌝ }
     ensures { λ e. ⌜ Puts (now (out .entry)) at (recordLine r) (now (out .exit)) e ⌝ }
@@ -56,7 +56,7 @@ fn put_record(out: &mut [u8], at: usize, r: Raw) -> usize
     put_small(out, to, body[9], b'\n')
 }
 
-// The records in the first `count` places.
+// Puts the lines of the records in the first `count` places.
 fn put_records(out: &mut [u8], at: usize, table: [Raw; LIMIT], count: usize) -> usize
     requires { ⌜ (count ≤ limit) × (at + length (recordLines (take count table)) ≤ length (now out)) ⌝ }
     ensures { λ r. ⌜ Puts (now (out .entry)) at (recordLines (take count table)) (now (out .exit)) r ⌝ }
@@ -70,7 +70,8 @@ fn put_records(out: &mut [u8], at: usize, table: [Raw; LIMIT], count: usize) -> 
     to
 }
 
-// The listing of an image, from the start of the buffer on; answers its length. A buffer shorter than LONGEST stays as it is, and the answer is 0.
+// Lists an image from the start of the buffer on, and answers the listing's length.
+// A buffer shorter than LONGEST stays as it is, and the answer is 0.
 pub fn list(image: &[u8], out: &mut [u8]) -> usize
     ensures { λ r. ⌜ Puts (now (out .entry)) 0 (listingIn (length (now (out .entry))) (now (image .entry))) (now (out .exit)) r ⌝ }
 {

@@ -1,24 +1,24 @@
-// What is written of a call: four of the five fields of an answer.
+// What is written of a call: four of the five fields of an answer. Each function answers the place one past what it put.
 use crate::output;
 use codec::Raw;
 use flash::Plan;
 use records::LIMIT;
 use records::Log;
 use records::State;
-use script::board::Value;
+use script::Given;
 ghost use Prim.Native.Nat.{_≤_};
 ghost use lib.ListN.{length};
 
-// With the bar behind it.
-fn value_text(out: &mut [u8], at: usize, v: Value) -> usize
+// Puts the value of a call, and a bar.
+fn value_text(out: &mut [u8], at: usize, v: Given) -> usize
     requires { ⌜ (64 ≤ length (now out)) × (at ≤ length (now out)) ⌝ }
     ensures { λ r. ⌜ r ≤ length (now (out .entry)) ⌝ }
 {
     match v {
-        Value::Dash => output::bytes(out, at, b"-|"),
-        Value::Absent => output::bytes(out, at, b"none|"),
-        Value::One(x) => output::field(out, at, x, b'|'),
-        Value::Three {
+        Given::Dash => output::bytes(out, at, b"-|"),
+        Given::Absent => output::bytes(out, at, b"none|"),
+        Given::One(x) => output::field(out, at, x, b'|'),
+        Given::Three {
             first,
             second,
             third,
@@ -30,7 +30,7 @@ fn value_text(out: &mut [u8], at: usize, v: Value) -> usize
     }
 }
 
-// With a space behind them.
+// Puts a plan's power, and a space.
 fn units(out: &mut [u8], at: usize, plan: Plan) -> usize
     requires { ⌜ (64 ≤ length (now out)) × (at ≤ length (now out)) ⌝ }
     ensures { λ r. ⌜ r ≤ length (now (out .entry)) ⌝ }
@@ -41,7 +41,7 @@ fn units(out: &mut [u8], at: usize, plan: Plan) -> usize
     output::bytes(out, at, b"inf ")
 }
 
-// With the bar behind it.
+// Puts a plan, and a bar.
 fn plan_text(out: &mut [u8], at: usize, plan: Plan) -> usize
     requires { ⌜ (64 ≤ length (now out)) × (at ≤ length (now out)) ⌝ }
     ensures { λ r. ⌜ r ≤ length (now (out .entry)) ⌝ }
@@ -51,7 +51,7 @@ fn plan_text(out: &mut [u8], at: usize, plan: Plan) -> usize
     output::field(out, b, plan.refuse_programs as u64, b'|')
 }
 
-// With a space behind it.
+// Puts a log's state, and a space.
 fn state_text(out: &mut [u8], at: usize, state: State) -> usize
     requires { ⌜ (64 ≤ length (now out)) × (at ≤ length (now out)) ⌝ }
     ensures { λ r. ⌜ r ≤ length (now (out .entry)) ⌝ }
@@ -68,7 +68,7 @@ fn state_text(out: &mut [u8], at: usize, state: State) -> usize
     }
 }
 
-// A space, and the twelve bytes of a record.
+// Puts a space, and the twelve bytes of a record.
 fn record(out: &mut [u8], at: usize, r: Raw) -> usize
     requires { ⌜ (64 ≤ length (now out)) × (at ≤ length (now out)) ⌝ }
     ensures { λ e. ⌜ e ≤ length (now (out .entry)) ⌝ }
@@ -85,6 +85,7 @@ fn record(out: &mut [u8], at: usize, r: Raw) -> usize
     to
 }
 
+// Whether a record is zeros only.
 fn is_zeros(r: Raw) -> bool {
     let body = r.body;
     let mut bits = r.tag | r.id;
@@ -110,6 +111,7 @@ fn places(table: [Raw; LIMIT], count: usize) -> usize
     n
 }
 
+// Puts the first n records of a table.
 fn table_text(out: &mut [u8], at: usize, table: [Raw; LIMIT], n: usize) -> usize
     requires { ⌜ (64 ≤ length (now out)) × (at ≤ length (now out)) ⌝ }
     requires { ⌜ n ≤ 32 ⌝ }
@@ -124,6 +126,7 @@ fn table_text(out: &mut [u8], at: usize, table: [Raw; LIMIT], n: usize) -> usize
     to
 }
 
+// Puts a log.
 fn log_text(out: &mut [u8], at: usize, log: Log) -> usize
     requires { ⌜ (64 ≤ length (now out)) × (at ≤ length (now out)) ⌝ }
     ensures { λ r. ⌜ r ≤ length (now (out .entry)) ⌝ }
@@ -138,12 +141,12 @@ fn log_text(out: &mut [u8], at: usize, log: Log) -> usize
     table_text(out, e, table, places(table, log.count))
 }
 
-// Four of the five fields, each with the bar behind it.
+// Puts four of the five fields of an answer, each with a bar behind it.
 pub fn answer(
     out: &mut [u8],
     at: usize,
     number: u8,
-    v: Value,
+    v: Given,
     programmed: usize,
     erased: usize,
     plan: Plan,

@@ -7,12 +7,12 @@ use flash::Plan;
 use ids::Anchor;
 use ids::CounterState;
 use records::Log;
+use script::Given;
 use script::MAX_8;
 use script::MAX_16;
 use script::MAX_32;
 use script::MAX_64;
 use script::Numbers;
-use script::board::Value;
 ghost use mathlib.Core.List.{_∷_, []};
 ghost use Prim.Native.Nat.{_≤_};
 ghost use lib.ListN.{length};
@@ -21,7 +21,7 @@ ghost use Rattle.script.specs.Limits.{Within};
 // What a call on an image answered.
 pub struct Work {
     pub ok: bool,
-    pub value: Value,
+    pub value: Given,
     pub done: Done,
 }
 
@@ -43,6 +43,7 @@ struct Seeds {
     seeds: [Seed; 8],
 }
 
+// A line that is no such call: log and plan as they were.
 fn unwritten(log: Log, plan: Plan) -> Work {
     let done = Done {
         answer: Answer::Done,
@@ -54,27 +55,30 @@ fn unwritten(log: Log, plan: Plan) -> Work {
     };
     Work {
         ok: false,
-        value: Value::Dash,
+        value: Given::Dash,
         done: done,
     }
 }
 
+// A call that answers no value.
 fn quiet(done: Done) -> Work {
     Work {
         ok: true,
-        value: Value::Dash,
+        value: Given::Dash,
         done: done,
     }
 }
 
+// A call that answers a number.
 fn telling(done: Done) -> Work {
     Work {
         ok: true,
-        value: Value::One(done.value),
+        value: Given::One(done.value),
         done: done,
     }
 }
 
+// The line `put`.
 fn put(line: &[u8], e: usize, image: &mut [u8], log: Log, plan: Plan) -> Work {
     let n = script::all_numbers(line, e, [MAX_8, MAX_8, MAX_32, MAX_32], 4);
     if !n.ok {
@@ -89,6 +93,7 @@ fn put(line: &[u8], e: usize, image: &mut [u8], log: Log, plan: Plan) -> Work {
     quiet(log::put(image, log, plan, x[0] as u8, new))
 }
 
+// The line `put_value`.
 fn put_value(line: &[u8], e: usize, image: &mut [u8], log: Log, plan: Plan) -> Work {
     let n = script::all_numbers(line, e, [MAX_8, MAX_64, 0, 0], 2);
     if !n.ok {
@@ -98,6 +103,7 @@ fn put_value(line: &[u8], e: usize, image: &mut [u8], log: Log, plan: Plan) -> W
     quiet(log::put_value(image, log, plan, x[0] as u8, x[1]))
 }
 
+// The line `put_anchor`.
 fn put_anchor(line: &[u8], e: usize, image: &mut [u8], log: Log, plan: Plan) -> Work {
     let n = script::all_numbers(line, e, [MAX_16, MAX_64, MAX_16, 0], 3);
     if !n.ok {
@@ -112,6 +118,7 @@ fn put_anchor(line: &[u8], e: usize, image: &mut [u8], log: Log, plan: Plan) -> 
     quiet(log::put_anchor(image, log, plan, new))
 }
 
+// A seed of zeros.
 fn no_seed() -> Seed {
     let c = CounterState::fresh(0);
     Seed {
@@ -120,6 +127,7 @@ fn no_seed() -> Seed {
     }
 }
 
+// The seed of four numbers.
 fn seed_of(n: Numbers) -> Seed
     requires { ⌜ Within (n .x) (255 ∷ 255 ∷ 4294967295 ∷ 4294967295 ∷ []) ⌝ }
 {
@@ -166,6 +174,7 @@ fn seeds_at(line: &[u8], at: usize) -> Seeds {
     }
 }
 
+// The line `format`.
 fn format(line: &[u8], e: usize, image: &mut [u8], log: Log, plan: Plan) -> Work {
     let n = script::some_numbers(line, e, [MAX_64, 0, 0, 0], 1);
     let s = seeds_at(line, n.next);
@@ -180,6 +189,7 @@ fn format(line: &[u8], e: usize, image: &mut [u8], log: Log, plan: Plan) -> Work
     quiet(log::format(image, log, plan, seeds, x[0] as usize))
 }
 
+// The line `spend`.
 fn spend(line: &[u8], e: usize, image: &mut [u8], log: Log, plan: Plan) -> Work {
     let n = script::all_numbers(line, e, [MAX_8, MAX_8, 0, 0], 2);
     if !n.ok {
@@ -189,6 +199,7 @@ fn spend(line: &[u8], e: usize, image: &mut [u8], log: Log, plan: Plan) -> Work 
     telling(tries::spend(image, log, plan, x[0] as u8, x[1] as u8))
 }
 
+// The line `set`.
 fn set(line: &[u8], e: usize, image: &mut [u8], log: Log, plan: Plan) -> Work {
     let n = script::all_numbers(line, e, [MAX_8, MAX_8, 0, 0], 2);
     if !n.ok {
@@ -198,6 +209,7 @@ fn set(line: &[u8], e: usize, image: &mut [u8], log: Log, plan: Plan) -> Work {
     quiet(tries::set(image, log, plan, x[0] as u8, x[1] as u8))
 }
 
+// The line `advance_lamport`.
 fn advance_lamport(line: &[u8], e: usize, image: &mut [u8], log: Log, plan: Plan) -> Work {
     let n = script::all_numbers(line, e, [MAX_64, 0, 0, 0], 1);
     if !n.ok {

@@ -10,6 +10,7 @@ struct Written {
     end: usize,
 }
 
+// Copies bytes to the front of others.
 pub fn copy(from: &[u8], to: &mut [u8])
     requires { ⌜ length (now from) ≤ length (now to) ⌝ }
 {
@@ -103,6 +104,7 @@ pub fn changes(out: &mut [u8], at: usize, old: &[u8], new: &[u8]) -> usize
     to
 }
 
+// Puts the whole image in hex.
 pub fn dump(out: &mut [u8], at: usize, image: &[u8]) -> usize
     requires { ⌜ (64 ≤ length (now out)) × (at ≤ length (now out)) ⌝ }
     ensures { λ r. ⌜ r ≤ length (now (out .entry)) ⌝ }

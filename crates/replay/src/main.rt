@@ -1,24 +1,24 @@
-// Program: plays a script and writes every answer, to compare with the Rust.
-// Replays the script on standard input: does its calls one by one, and writes what each answered on standard output.
+// The program `replay`: plays the script on its standard input call by call, and writes what each answered, to compare with the Rust.
 // The input comes in chunks; what a chunk has of a line without its end waits for the next.
 
-mod output; // Text to standard output by way of a lent buffer
-mod changes; // What a call changed of the image, as runs of hex
-mod answers; // What is written of a call
-pub mod sessions; // How far a script is
-mod views; // The line that is written of a call; and the lines that look at the image
-pub mod calls; // The calls that can write
-mod queries; // The calls that only read the log
+mod output; // text to standard output by way of a buffer
+mod answers; // the fields of an answer
+mod changes; // what a call changed of the image
+mod queries; // the calls that only read
+mod calls; // the calls that can write
+mod views; // the line of a call; open, dump and list
+mod sessions; // how far a script is; save and restore
 
 use crate::sessions::Chunk;
 use crate::sessions::Round;
 use crate::sessions::Session;
+use flash::LARGEST;
 use script::Board;
-use script::SPACE;
 use script::Step;
 ghost use mathlib.Core.Path.{_≡_};
 ghost use Prim.Native.Nat.{_≤_};
 ghost use lib.ListN.{length};
+ghost use Rattle.flash.specs.Image.{largest};
 ghost use Rattle.replay.specs.Limits.{Sound};
 
 // The most characters of a line.
@@ -106,10 +106,10 @@ fn work(
     at: usize,
     board: Board,
 ) -> Step
-    requires { ⌜ (65536 ≤ length (now image)) × (65536 ≤ length (now before)) ⌝ }
+    requires { ⌜ (largest ≤ length (now image)) × (largest ≤ length (now before)) ⌝ }
     requires { ⌜ (64 ≤ length (now out)) × (at ≤ length (now out)) ⌝ }
-    requires { ⌜ board .len ≤ 65536 ⌝ }
-    ensures { λ r. ⌜ (r .at ≤ length (now (out .entry))) × (r .board .len ≤ 65536) ⌝ }
+    requires { ⌜ board .len ≤ largest ⌝ }
+    ensures { λ r. ⌜ (r .at ≤ length (now (out .entry))) × (r .board .len ≤ largest) ⌝ }
 {
     let e = script::until(line, 0, b' ');
     let n = board.len;
@@ -134,8 +134,8 @@ fn turn(
     out: &mut [u8],
     session: Session,
 ) -> Session
-    requires { ⌜ (65536 ≤ length (now image)) × (65536 ≤ length (now saved)) ⌝ }
-    requires { ⌜ (65536 ≤ length (now before)) × (64 ≤ length (now out)) ⌝ }
+    requires { ⌜ (largest ≤ length (now image)) × (largest ≤ length (now saved)) ⌝ }
+    requires { ⌜ (largest ≤ length (now before)) × (64 ≤ length (now out)) ⌝ }
     requires { ⌜ Sound session (length (now out)) ⌝ }
     ensures { λ r. ⌜ Sound r (length (now (out .entry))) ⌝ }
 {
@@ -162,8 +162,8 @@ fn whole_lines(
     out: &mut [u8],
     session: Session,
 ) -> Chunk
-    requires { ⌜ (65536 ≤ length (now image)) × (65536 ≤ length (now saved)) ⌝ }
-    requires { ⌜ (65536 ≤ length (now before)) × (64 ≤ length (now out)) ⌝ }
+    requires { ⌜ (largest ≤ length (now image)) × (largest ≤ length (now saved)) ⌝ }
+    requires { ⌜ (largest ≤ length (now before)) × (64 ≤ length (now out)) ⌝ }
     requires { ⌜ Sound session (length (now out)) ⌝ }
     ensures { λ r. ⌜ (r .from ≤ length (now (text .entry))) × Sound (r .session) (length (now (out .entry))) ⌝ }
 {
@@ -200,8 +200,8 @@ fn go_on(
     out: &mut [u8],
     last: Round,
 ) -> Round
-    requires { ⌜ (65536 ≤ length (now image)) × (65536 ≤ length (now saved)) ⌝ }
-    requires { ⌜ (65536 ≤ length (now before)) × (64 ≤ length (now out)) ⌝ }
+    requires { ⌜ (largest ≤ length (now image)) × (largest ≤ length (now saved)) ⌝ }
+    requires { ⌜ (largest ≤ length (now before)) × (64 ≤ length (now out)) ⌝ }
     requires { ⌜ (last .have ≤ length (now input)) × Sound (last .session) (length (now out)) ⌝ }
     ensures { λ r. ⌜ (r .have ≤ length (now (input .entry))) × Sound (r .session) (length (now (out .entry))) ⌝ }
 {
@@ -217,8 +217,8 @@ fn go_on(
 
 // Round after round. A proved loop has to end, and nothing says that an input does: so it counts down from a number that no run uses up.
 fn replay(input: &mut [u8], image: &mut [u8], saved: &mut [u8], before: &mut [u8], out: &mut [u8])
-    requires { ⌜ (65536 ≤ length (now image)) × (65536 ≤ length (now saved)) ⌝ }
-    requires { ⌜ (65536 ≤ length (now before)) × (64 ≤ length (now out)) ⌝ }
+    requires { ⌜ (largest ≤ length (now image)) × (largest ≤ length (now saved)) ⌝ }
+    requires { ⌜ (largest ≤ length (now before)) × (64 ≤ length (now out)) ⌝ }
 {
     let s = sessions::start();
     let mut r = Round {
@@ -237,10 +237,10 @@ fn replay(input: &mut [u8], image: &mut [u8], saved: &mut [u8], before: &mut [u8
 }
 
 fn main() {
-    let mut input = [0u8; SPACE];
-    let mut image = [0u8; SPACE];
-    let mut saved = [0u8; SPACE];
-    let mut before = [0u8; SPACE];
-    let mut out = [0u8; SPACE];
+    let mut input = [0u8; LARGEST];
+    let mut image = [0u8; LARGEST];
+    let mut saved = [0u8; LARGEST];
+    let mut before = [0u8; LARGEST];
+    let mut out = [0u8; LARGEST];
     replay(&mut input, &mut image, &mut saved, &mut before, &mut out);
 }

@@ -4,17 +4,17 @@ use libc::STDOUT_FILENO;
 ghost use Prim.Native.Nat.{_+_, _≤_};
 ghost use lib.ListN.{length};
 
-// No piece is longer.
+// The longest piece that is put at once.
 const PIECE: usize = 64;
 
-// What stands in the buffer is written.
+// Writes what stands in the buffer.
 pub fn flush(out: &[u8], at: usize)
     requires { ⌜ at ≤ length (now out) ⌝ }
 {
     io::write_all(STDOUT_FILENO, &out[0..at]);
 }
 
-// A place that has room for a piece.
+// A place with room for a piece: this one, or the buffer's start after a flush.
 fn room(out: &[u8], at: usize) -> usize
     requires { ⌜ (64 ≤ length (now out)) × (at ≤ length (now out)) ⌝ }
     ensures { λ r. ⌜ r + 64 ≤ length (now (out .entry)) ⌝ }
@@ -26,6 +26,7 @@ fn room(out: &[u8], at: usize) -> usize
     0
 }
 
+// Puts a byte.
 pub fn byte(out: &mut [u8], at: usize, b: u8) -> usize
     requires { ⌜ (64 ≤ length (now out)) × (at ≤ length (now out)) ⌝ }
     ensures { λ r. ⌜ r ≤ length (now (out .entry)) ⌝ }
@@ -34,6 +35,7 @@ pub fn byte(out: &mut [u8], at: usize, b: u8) -> usize
     text::put_byte(out, to, b)
 }
 
+// Puts a piece of text.
 pub fn bytes(out: &mut [u8], at: usize, piece: &[u8]) -> usize
     requires { ⌜ (64 ≤ length (now out)) × (at ≤ length (now out)) ⌝ }
     requires { ⌜ length (now piece) ≤ 64 ⌝ }
@@ -43,6 +45,7 @@ pub fn bytes(out: &mut [u8], at: usize, piece: &[u8]) -> usize
     text::put_bytes(out, to, piece)
 }
 
+// Puts a number in decimal.
 pub fn number(out: &mut [u8], at: usize, x: u64) -> usize
     requires { ⌜ (64 ≤ length (now out)) × (at ≤ length (now out)) ⌝ }
     ensures { λ r. ⌜ r ≤ length (now (out .entry)) ⌝ }
@@ -51,7 +54,7 @@ pub fn number(out: &mut [u8], at: usize, x: u64) -> usize
     text::put_decimal(out, to, x)
 }
 
-// A number and the byte behind it.
+// Puts a number in decimal, and the byte behind it.
 pub fn field(out: &mut [u8], at: usize, x: u64, behind: u8) -> usize
     requires { ⌜ (64 ≤ length (now out)) × (at ≤ length (now out)) ⌝ }
     ensures { λ r. ⌜ r ≤ length (now (out .entry)) ⌝ }
@@ -60,6 +63,7 @@ pub fn field(out: &mut [u8], at: usize, x: u64, behind: u8) -> usize
     byte(out, to, behind)
 }
 
+// Puts a byte in hex.
 pub fn hex(out: &mut [u8], at: usize, b: u8) -> usize
     requires { ⌜ (64 ≤ length (now out)) × (at ≤ length (now out)) ⌝ }
     ensures { λ r. ⌜ r ≤ length (now (out .entry)) ⌝ }

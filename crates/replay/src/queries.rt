@@ -6,22 +6,24 @@ use reads::Counter;
 use reads::Number;
 use reads::Told;
 use records::Log;
+use script::Given;
 use script::MAX_8;
 use script::Reply;
-use script::board::Value;
 use tries::TriesLeft;
 ghost use Prim.Native.Nat.{_≤_};
 ghost use lib.ListN.{length};
 
+// A line that is no such call.
 fn unread() -> Reply {
     Reply {
         ok: false,
         answer: Answer::Done,
-        value: Value::Dash,
+        value: Given::Dash,
     }
 }
 
-fn says(answer: Answer, value: Value) -> Reply {
+// An answer and a value.
+fn says(answer: Answer, value: Given) -> Reply {
     Reply {
         ok: true,
         answer: answer,
@@ -32,16 +34,17 @@ fn says(answer: Answer, value: Value) -> Reply {
 // The answer and number of a call that tells one.
 fn reply_of(t: Told) -> Reply {
     let answer = t.answer;
-    says(answer, Value::One(t.value))
+    says(answer, Given::One(t.value))
 }
 
+// The line `get`.
 fn get(log: Log, credential: u8) -> Reply {
     match reads::get(log, credential) {
-        Counter::Refused(answer) => says(answer, Value::Absent),
-        Counter::Nothing => says(Answer::Done, Value::Absent),
+        Counter::Refused(answer) => says(answer, Given::Absent),
+        Counter::Nothing => says(Answer::Done, Given::Absent),
         Counter::Held(s) => says(
             Answer::Done,
-            Value::Three {
+            Given::Three {
                 first: s.allowance as u64,
                 second: s.total as u64,
                 third: s.at_reset as u64,
@@ -50,21 +53,23 @@ fn get(log: Log, credential: u8) -> Reply {
     }
 }
 
+// The line `value`.
 fn value(log: Log, id: u8) -> Reply {
     match reads::value(log, id) {
-        Number::Refused(answer) => says(answer, Value::Absent),
-        Number::Nothing => says(Answer::Done, Value::Absent),
-        Number::Held(x) => says(Answer::Done, Value::One(x)),
+        Number::Refused(answer) => says(answer, Given::Absent),
+        Number::Nothing => says(Answer::Done, Given::Absent),
+        Number::Held(x) => says(Answer::Done, Given::One(x)),
     }
 }
 
+// The line `anchor`.
 fn anchor(log: Log) -> Reply {
     match reads::anchor(log) {
-        Anchored::Refused(answer) => says(answer, Value::Absent),
-        Anchored::Nothing => says(Answer::Done, Value::Absent),
+        Anchored::Refused(answer) => says(answer, Given::Absent),
+        Anchored::Nothing => says(Answer::Done, Given::Absent),
         Anchored::Held(a) => says(
             Answer::Done,
-            Value::Three {
+            Given::Three {
                 first: a.format_gen as u64,
                 second: a.head_seq,
                 third: a.head_slot as u64,
@@ -73,11 +78,12 @@ fn anchor(log: Log) -> Reply {
     }
 }
 
+// The line `remaining`.
 fn remaining(log: Log, credential: u8) -> Reply {
     match tries::remaining(log, credential) {
-        TriesLeft::Refused(answer) => says(answer, Value::Absent),
-        TriesLeft::Nothing => says(Answer::Done, Value::Absent),
-        TriesLeft::Tries(n) => says(Answer::Done, Value::One(n as u64)),
+        TriesLeft::Refused(answer) => says(answer, Given::Absent),
+        TriesLeft::Nothing => says(Answer::Done, Given::Absent),
+        TriesLeft::Tries(n) => says(Answer::Done, Given::One(n as u64)),
     }
 }
 

@@ -8,6 +8,7 @@ use script::Board;
 ghost use mathlib.Core.Path.{_≡_};
 ghost use Prim.Native.Nat.{_≤_};
 ghost use lib.ListN.{length};
+ghost use Rattle.flash.specs.Image.{largest};
 ghost use Rattle.replay.specs.Limits.{Sound};
 
 // How far a script is: its lines so far, where the text in the buffer ends, whether a line couldn't be read, the board, and the one kept.
@@ -37,6 +38,7 @@ pub struct Kept {
     pub session: Session,
 }
 
+// A script's start: no image, a plan that refuses nothing, an Unformatted log.
 pub fn start() -> Session
     ensures { λ r. ⌜ Sound r 0 ⌝ }
 {
@@ -81,9 +83,9 @@ fn is_passed(line: &[u8]) -> bool {
 
 // A line is counted, and done where it needs no call.
 pub fn keeping(line: &[u8], image: &mut [u8], saved: &mut [u8], session: Session) -> Kept
-    requires { ⌜ (65536 ≤ length (now image)) × (65536 ≤ length (now saved)) ⌝ }
-    requires { ⌜ (session .now .len ≤ 65536) × (session .kept .len ≤ 65536) ⌝ }
-    ensures { λ r. ⌜ (r .session .at ≡ session .at) × ((r .session .now .len ≤ 65536) × (r .session .kept .len ≤ 65536)) ⌝ }
+    requires { ⌜ (largest ≤ length (now image)) × (largest ≤ length (now saved)) ⌝ }
+    requires { ⌜ (session .now .len ≤ largest) × (session .kept .len ≤ largest) ⌝ }
+    ensures { λ r. ⌜ (r .session .at ≡ session .at) × ((r .session .now .len ≤ largest) × (r .session .kept .len ≤ largest)) ⌝ }
 {
     let mut s = session;
     s.lines = std::num::wrapping_add_u64(s.lines, 1);
@@ -119,6 +121,7 @@ pub fn keeping(line: &[u8], image: &mut [u8], saved: &mut [u8], session: Session
     }
 }
 
+// Writes that this line couldn't be read.
 fn bad_line(out: &mut [u8], at: usize, n: u64)
     requires { ⌜ (64 ≤ length (now out)) × (at ≤ length (now out)) ⌝ }
 {

@@ -4,9 +4,9 @@ use crate::changes;
 use crate::output;
 use decisions::Done;
 use script::Board;
+use script::Given;
 use script::Reply;
 use script::Step;
-use script::board::Value;
 ghost use mathlib.Core.Path.{_≡_};
 ghost use Prim.Native.Nat.{_≤_};
 ghost use lib.ListN.{length};
@@ -28,7 +28,7 @@ pub fn answered(out: &mut [u8], at: usize, r: Reply, board: Board) -> usize
 pub fn worked(
     out: &mut [u8],
     at: usize,
-    value: Value,
+    value: Given,
     d: Done,
     before: &[u8],
     image: &[u8],
@@ -54,6 +54,7 @@ pub fn worked(
     output::byte(out, b, b'\n')
 }
 
+// The line `open`: the image is opened anew, and its log becomes the board's.
 fn open(image: &[u8], out: &mut [u8], at: usize, board: Board) -> Step
     requires { ⌜ (64 ≤ length (now out)) × (at ≤ length (now out)) ⌝ }
     ensures { λ r. ⌜ (r .at ≤ length (now (out .entry))) × (r .board .len ≡ board .len) ⌝ }
@@ -70,7 +71,7 @@ fn open(image: &[u8], out: &mut [u8], at: usize, board: Board) -> Step
     let r = Reply {
         ok: true,
         answer: answer,
-        value: Value::Dash,
+        value: Given::Dash,
     };
     Step {
         ok: true,

@@ -52,7 +52,7 @@ pub fn some_numbers(line: &[u8], at: usize, most: [u64; 4], count: usize) -> Num
     }
 }
 
-// The same where the line ends behind them.
+// The same, where the line ends behind them; else `ok` is false.
 pub fn all_numbers(line: &[u8], at: usize, most: [u64; 4], count: usize) -> Numbers
     requires { ⌜ count ≤ 4 ⌝ }
     ensures { λ r. ⌜ Within (r .x) most ⌝ }

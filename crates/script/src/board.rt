@@ -4,9 +4,6 @@ use basics::Answer;
 use flash::Plan;
 use records::Log;
 
-// The largest image.
-pub const SPACE: usize = 65536;
-
 // What the calls work on beside the image's bytes.
 pub struct Board {
     pub len: usize,
@@ -15,7 +12,7 @@ pub struct Board {
 }
 
 // What a call hands back beside its answer: nothing at all, no value, or numbers.
-pub enum Value {
+pub enum Given {
     Dash,
     Absent,
     One(u64),
@@ -26,7 +23,7 @@ pub enum Value {
 pub struct Reply {
     pub ok: bool,
     pub answer: Answer,
-    pub value: Value,
+    pub value: Given,
 }
 
 // What a line made of the board, and where the text in the buffer ends.

@@ -1,15 +1,14 @@
-// A script of calls: its words, numbers, settings and log lines.
-// What stands in a line of a replay script, defined, with its laws: where a word ends, a word that is expected, a number in decimal,
-// bytes in hex. They are read in the modules words, decimals and hex. A place is any number: what is not there is refused.
+// A script of calls, line by line: its words and numbers, the lines that set something, the input in chunks.
+// A place in a line is any number: what is not there is refused.
 
-mod words; // The words of a line
-mod hex; // Bytes of a line, in lower-case hex
-mod decimals; // Numbers of a line, in decimal
-mod chunks; // The input in chunks
-pub mod arguments; // The numbers of a line, up to four of them, each within a limit of its own
-pub mod loglines; // A log of a script's own, as a line gives it
-pub mod board; // What the parts of the program `replay` hand each other
-pub mod settings; // Lines that set something
+mod words; // where a word ends, whether two texts are the same, a word that is expected
+mod decimals; // a number in decimal, within a limit
+mod hex; // bytes in lower-case hex
+mod arguments; // up to four numbers of a line
+mod loglines; // a log, as a line gives it
+mod settings; // the lines image, at, plan and log
+mod chunks; // the input, chunk by chunk
+mod board; // what the parts of the program `replay` hand each other
 
 pub use arguments::MAX_8;
 pub use arguments::MAX_16;
@@ -19,34 +18,37 @@ pub use arguments::Numbers;
 pub use arguments::all_numbers;
 pub use arguments::some_numbers;
 pub use board::Board;
+pub use board::Given;
 pub use board::Reply;
-pub use board::SPACE;
 pub use board::Step;
 pub use chunks::keep;
 pub use chunks::more;
 pub use chunks::trimmed;
 pub use chunks::until;
+pub use settings::Change;
 pub use settings::setting;
 pub use words::is_same;
 
 // The place behind a word that was expected.
-pub enum Past {
+enum Past {
     At(usize),
     Refused,
 }
 
-pub enum Value {
+// A number, if there is one.
+enum Value {
     Is(u64),
     Refused,
 }
 
 // A number, and the place behind it.
-pub enum Taken {
+enum Taken {
     Number { value: u64, next: usize },
     Refused,
 }
 
-pub enum Byte {
+// A byte, if there is one.
+enum Byte {
     Is(u8),
     Refused,
 }

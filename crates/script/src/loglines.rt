@@ -14,28 +14,33 @@ use records::State;
 ghost use mathlib.Core.List.{_∷_, []};
 ghost use Rattle.script.specs.Limits.{Within};
 
+// A log that was read.
 pub struct LogRead {
     pub ok: bool,
     pub log: Log,
 }
 
+// A state that was read, and the place behind it.
 struct StateRead {
     ok: bool,
     next: usize,
     state: State,
 }
 
+// A table that was read.
 struct TableRead {
     ok: bool,
     table: [Raw; LIMIT],
 }
 
+// A record that was read, and the place behind it.
 struct RecordRead {
     ok: bool,
     next: usize,
     raw: Raw,
 }
 
+// The sector, seq and head of an Active state.
 fn active_at(line: &[u8], at: usize) -> StateRead {
     let n = arguments::some_numbers(line, at, [MAX_32, MAX_32, MAX_32, 0], 3);
     let x = n.x;
@@ -51,6 +56,7 @@ fn active_at(line: &[u8], at: usize) -> StateRead {
     }
 }
 
+// A state: active with its numbers, failed, or unformatted.
 fn state_at(line: &[u8], at: usize) -> StateRead {
     if let Past::At(next) = words::skip(line, at, b"active") {
         return active_at(line, next);
@@ -90,6 +96,7 @@ fn named(line: &[u8], at: usize, word: &[u8], most: u64) -> Numbers
     }
 }
 
+// No record stands at this place.
 fn no_record(at: usize) -> RecordRead {
     let z = Raw::none();
     RecordRead {
@@ -157,6 +164,7 @@ fn table_at(line: &[u8], at: usize) -> TableRead {
     }
 }
 
+// The log that a line gives: state, next and count, then the records.
 pub fn log_line(line: &[u8], at: usize) -> LogRead {
     let s = state_at(line, at);
     let n = named(line, s.next, b"next", MAX_32);

@@ -5,16 +5,17 @@ use crate::arguments;
 use crate::arguments::MAX_32;
 use crate::arguments::MAX_64;
 use crate::board::Board;
-use crate::board::SPACE;
 use crate::decimals;
 use crate::hex;
 use crate::loglines;
 use crate::words;
+use flash::LARGEST;
 use flash::Plan;
 use records::Log;
 ghost use mathlib.Core.Path.{_≡_};
 ghost use Prim.Native.Nat.{_≤_};
 ghost use lib.ListN.{length};
+ghost use Rattle.flash.specs.Image.{largest};
 
 // The board behind such a line.
 pub struct Change {
@@ -22,11 +23,13 @@ pub struct Change {
     pub board: Board,
 }
 
+// A plan that was read.
 struct PlanRead {
     ok: bool,
     plan: Plan,
 }
 
+// A plan with this power; its flag and number of refused programs stand at `at`.
 fn plan_rest(line: &[u8], at: usize, limited: bool, units: u64) -> PlanRead {
     let n = arguments::all_numbers(line, at, [1, MAX_32, 0, 0], 2);
     let x = n.x;
@@ -42,6 +45,7 @@ fn plan_rest(line: &[u8], at: usize, limited: bool, units: u64) -> PlanRead {
     }
 }
 
+// A plan: inf or a number of units, then the rest.
 fn plan_line(line: &[u8], at: usize, old: Plan) -> PlanRead {
     match words::skip(line, at, b"inf") {
         Past::At(next) => plan_rest(line, next, false, 0),
@@ -81,14 +85,15 @@ fn at_line(line: &[u8], at: usize, image: &mut [u8]) -> bool {
 
 // The image's length: a number above the largest stands for a wrong size, and becomes one byte.
 fn size_of(len: u64) -> usize
-    ensures { λ r. ⌜ r ≤ 65536 ⌝ }
+    ensures { λ r. ⌜ r ≤ largest ⌝ }
 {
-    if (SPACE as u64) < len {
+    if (LARGEST as u64) < len {
         return 1;
     }
     len as usize
 }
 
+// Fills a part of the image with FF.
 fn erase(image: &mut [u8]) {
     let mut i: usize = 0;
     while i < image.len() {
@@ -97,6 +102,7 @@ fn erase(image: &mut [u8]) {
     }
 }
 
+// A board of these parts.
 fn set(ok: bool, len: usize, plan: Plan, log: Log) -> Change
     ensures { λ r. ⌜ r .board .len ≡ len ⌝ }
 {
@@ -111,6 +117,7 @@ fn set(ok: bool, len: usize, plan: Plan, log: Log) -> Change
     }
 }
 
+// The line `log`.
 fn set_log(line: &[u8], at: usize, board: Board) -> Change
     ensures { λ r. ⌜ r .board .len ≡ board .len ⌝ }
 {
@@ -120,6 +127,7 @@ fn set_log(line: &[u8], at: usize, board: Board) -> Change
     set(r.ok, board.len, plan, log)
 }
 
+// The line `plan`.
 fn set_plan(line: &[u8], at: usize, board: Board) -> Change
     ensures { λ r. ⌜ r .board .len ≡ board .len ⌝ }
 {
@@ -130,6 +138,7 @@ fn set_plan(line: &[u8], at: usize, board: Board) -> Change
     set(r.ok, board.len, plan, log)
 }
 
+// The line `at`.
 fn set_bytes(line: &[u8], at: usize, image: &mut [u8], board: Board) -> Change
     requires { ⌜ board .len ≤ length (now image) ⌝ }
     ensures { λ r. ⌜ r .board .len ≡ board .len ⌝ }
@@ -141,9 +150,10 @@ fn set_bytes(line: &[u8], at: usize, image: &mut [u8], board: Board) -> Change
     set(ok, len, plan, log)
 }
 
+// The line `image`.
 fn set_image(line: &[u8], at: usize, image: &mut [u8], board: Board) -> Change
-    requires { ⌜ 65536 ≤ length (now image) ⌝ }
-    ensures { λ r. ⌜ r .board .len ≤ 65536 ⌝ }
+    requires { ⌜ largest ≤ length (now image) ⌝ }
+    ensures { λ r. ⌜ r .board .len ≤ largest ⌝ }
 {
     let plan = board.plan;
     let log = board.log;
@@ -156,9 +166,9 @@ fn set_image(line: &[u8], at: usize, image: &mut [u8], board: Board) -> Change
 
 // A line whose first word ends at `e`, if it is one of these.
 pub fn setting(line: &[u8], e: usize, image: &mut [u8], board: Board) -> Change
-    requires { ⌜ (e ≤ length (now line)) × (65536 ≤ length (now image)) ⌝ }
-    requires { ⌜ board .len ≤ 65536 ⌝ }
-    ensures { λ r. ⌜ r .board .len ≤ 65536 ⌝ }
+    requires { ⌜ (e ≤ length (now line)) × (largest ≤ length (now image)) ⌝ }
+    requires { ⌜ board .len ≤ largest ⌝ }
+    ensures { λ r. ⌜ r .board .len ≤ largest ⌝ }
 {
     let word = &line[0..e];
     if words::is_same(word, b"at") {

@@ -19,6 +19,7 @@ pub fn end(text: &[u8], at: usize, stop: u8) -> usize
     i
 }
 
+// Whether two texts are the same, byte for byte.
 pub fn is_same(a: &[u8], b: &[u8]) -> bool
     ensures { λ r. ⌜ r ≡ same (now (a .entry)) (now (b .entry)) ⌝ }
 {
@@ -35,7 +36,7 @@ pub fn is_same(a: &[u8], b: &[u8]) -> bool
     true
 }
 
-// Past a space and this word behind it.
+// The place behind a space and this word; refused where something else stands there.
 pub fn skip(text: &[u8], at: usize, word: &[u8]) -> Past
     ensures { λ r. ⌜ r ≡ skipOf (now (word .entry)) at (now (text .entry)) ⌝ }
 {

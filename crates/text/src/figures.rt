@@ -4,7 +4,7 @@ ghost use Prim.Native.Nat.{_+_, _≤_, _<_};
 ghost use lib.ListN.{length};
 ghost use Rattle.text.specs.Text.{decimal, hexDigit, hexOf, Puts};
 
-// The digits are found from the last to the first, in places of their own, and copied.
+// Puts a number in decimal. Its digits are found from the last to the first, in places of their own, and copied.
 pub fn put_decimal(out: &mut [u8], at: usize, x: u64) -> usize
     requires { ⌜ at + length (decimal x) ≤ length (now out) ⌝ }
     ensures { λ r. ⌜ Puts (now (out .entry)) at (decimal x) (now (out .exit)) r ⌝ }
@@ -22,6 +22,7 @@ pub fn put_decimal(out: &mut [u8], at: usize, x: u64) -> usize
     crate::put_bytes(out, at, &places[first..20])
 }
 
+// The lower-case hex digit of a number below 16.
 fn hex_digit(x: u8) -> u8
     requires { ⌜ x < 16 ⌝ }
     ensures { λ r. ⌜ r ≡ hexDigit x ⌝ }
@@ -29,7 +30,7 @@ fn hex_digit(x: u8) -> u8
     if x < 10 { b'0' + x } else { b'a' + (x - 10) }
 }
 
-// Two digits, lower-case.
+// Puts a byte as two lower-case hex digits.
 pub fn put_hex(out: &mut [u8], at: usize, byte: u8) -> usize
     requires { ⌜ at + 2 ≤ length (now out) ⌝ }
     ensures { λ r. ⌜ Puts (now (out .entry)) at (hexOf byte) (now (out .exit)) r ⌝ }

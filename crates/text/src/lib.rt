@@ -1,7 +1,6 @@
-// Bytes, decimal and hex put into a buffer.
-// Text into a lent buffer: a byte, and bytes; figures has numbers. Each answers the place one past what it put.
+// Text into a lent buffer: bytes, numbers in decimal, a byte in hex. Each function answers the place one past what it put.
 
-mod figures; // Numbers as text into a lent buffer
+mod figures; // numbers in decimal, and a byte in hex
 
 pub use figures::put_decimal;
 pub use figures::put_hex;
@@ -10,6 +9,7 @@ ghost use Prim.Native.Nat.{_+_, _≤_, _<_};
 ghost use lib.ListN.{length};
 ghost use Rattle.text.specs.Text.{Puts};
 
+// Puts one byte.
 pub fn put_byte(out: &mut [u8], at: usize, byte: u8) -> usize
     requires { ⌜ at < length (now out) ⌝ }
     ensures { λ r. ⌜ Puts (now (out .entry)) at (byte ∷ []) (now (out .exit)) r ⌝ }
@@ -18,6 +18,7 @@ pub fn put_byte(out: &mut [u8], at: usize, byte: u8) -> usize
     at + 1
 }
 
+// Puts bytes, in order.
 pub fn put_bytes(out: &mut [u8], at: usize, bytes: &[u8]) -> usize
     requires { ⌜ at + length (now bytes) ≤ length (now out) ⌝ }
     ensures { λ r. ⌜ Puts (now (out .entry)) at (now (bytes .entry)) (now (out .exit)) r ⌝ }
