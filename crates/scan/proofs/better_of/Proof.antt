@@ -6,6 +6,10 @@ use borrow.Author.Needs.{needs}
 use Rattle.scan.proofs.better_of.Statement.{statement}
 use Rattle.scan.proofs.better_of.Tie as tie
 
+-- where both are sectors: the header was matched before the best so far
+abbrev header-at : tie.After-best → tie.After-header
+header-at b = b .before .before .before
+
 enum-told : tie.Need-enum-told
 enum-told c = search needs
 
@@ -25,10 +29,10 @@ returns-2 : tie.Need-returns-2
 returns-2 c = rw (c .enum-told2 .given .1, c .before .before .before .header .given .1)
 
 returns-3 : tie.Need-returns-3
-returns-3 c = rw (c .before .before .best .given .1, c .before .before .before .before .before .header .given .1, lt-ltb _ _ (c .if1 .taken))
+returns-3 c = let b = c .before .before in rw (b .best .given .1, header-at b .header .given .1, lt-ltb _ _ (c .if1 .taken))
 
 returns-4 : tie.Need-returns-4
-returns-4 c = rw (c .before .before .best .given .1, c .before .before .before .before .before .header .given .1, le-ltb _ _ (c .if1 .left))
+returns-4 c = let b = c .before .before in rw (b .best .given .1, header-at b .header .given .1, le-ltb _ _ (c .if1 .left))
 
 pub better-of-spec : {M : Type 1} → statement M
 better-of-spec =

@@ -15,6 +15,9 @@ Inv-loop image sectors version best₀ s₀ best s =
 abbrev μ-loop : tie.MeasureT-loop
 μ-loop image sectors version best₀ s₀ best s = sectors - s
 
+abbrev start-of : tie.At-loop Inv-loop μ-loop → tie.Start Inv-loop μ-loop
+start-of l = l .before .before
+
 loop-holds : tie.Need-loop-holds Inv-loop μ-loop
 loop-holds c = let none : c .before .args .sectors - 0 ≡ c .before .args .sectors = omega arith in (omega arith, rw none)
 
@@ -35,8 +38,9 @@ loop-less c = omega arith
 
 loop-again : tie.Need-loop-again Inv-loop μ-loop
 loop-again c =
-    let loop = c .before .before .before .before .loop in
-    let a = c .before .before .before .before .before .before .args in
+    let l = c .before .before .before .before in
+    let loop = l .loop in
+    let a = start-of l .args in
     let headers = headerAt (a .version) (a .image .now) in
     let header-read = c .before .decode-header .ensures ∙ ap (headerOf (a .version)) (c .before .before .slot .ensures) in (
       omega arith,
@@ -48,7 +52,7 @@ loop-again c =
 returns : tie.Need-returns Inv-loop μ-loop
 returns c =
     let loop = c .before .loop in
-    let a = c .before .before .before .args in
+    let a = start-of (c .before) .args in
     sym (best-end (headerAt (a .version) (a .image .now)) (loop .best) (a .sectors) (loop .s) (omega arith)) ∙ loop .inv .1
 
 pub choose-spec : {M : Type 1} → statement M

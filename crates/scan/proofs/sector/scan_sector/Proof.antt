@@ -30,63 +30,73 @@ abbrev μ-loop : tie.MeasureT-loop
 μ-loop image sector seq start table₀ tags₀ ids₀ count₀ head₀ k₀ table tags ids count head k = 256 - k
 
 -- what is known of a turn, at the places where it is first known
+abbrev start-of : tie.At-loop Inv-loop μ-loop → tie.Start Inv-loop μ-loop
+start-of l = l .before .before .before .before
+
 abbrev seq-of : tie.At-loop Inv-loop μ-loop → ℕ
-seq-of l = l .before .before .before .before .args .seq
+seq-of l = start-of l .args .seq
 
 abbrev slots-of : tie.At-loop Inv-loop μ-loop → ℕ → List ℕ
-slots-of l = slotAt (l .before .before .before .before .args .image .now) (l .before .before .before .before .args .sector)
+slots-of l = slotAt (start-of l .args .image .now) (start-of l .args .sector)
 
+-- from each call back to the one that the proof needs before it
 abbrev at-loop : tie.After-is-erased Inv-loop μ-loop → tie.At-loop Inv-loop μ-loop
-at-loop c = c .before .before .before
+at-loop g = g .before .before .before
+
+abbrev tested-at : tie.After-decode-from Inv-loop μ-loop → tie.After-is-erased Inv-loop μ-loop
+tested-at d = d .before .before
+
+abbrev decoded-at : tie.After-tags Inv-loop μ-loop → tie.After-decode-from Inv-loop μ-loop
+decoded-at t = t .before .before .before .before
+
+abbrev read-at : tie.After-find Inv-loop μ-loop → tie.After-decode-from Inv-loop μ-loop
+read-at f = decoded-at (f .before .before)
 
 erased-is : (c : tie.After-is-erased Inv-loop μ-loop) → c .is-erased .result ≡ allAre 0xFF (slots-of (at-loop c) (at-loop c .loop .k))
 erased-is c = c .is-erased .ensures ∙ ap (allAre 0xFF) (c .before .slot .ensures)
 
-decoded-is : (c : tie.After-decode-from Inv-loop μ-loop) → let g = c .before .before in
-    c .decode-from .result ≡ decoded (seq-of (at-loop g)) (slots-of (at-loop g) (at-loop g .loop .k))
-decoded-is c =
-    let g = c .before .before in
+decoded-is : (d : tie.After-decode-from Inv-loop μ-loop) → let l = at-loop (tested-at d) in
+    d .decode-from .result ≡ decoded (seq-of l) (slots-of l (l .loop .k))
+decoded-is d =
+    let g = tested-at d in
     let l = at-loop g in
     let slot = g .before .slot .result .now in
-    c .decode-from .ensures
+    d .decode-from .ensures
     ∙ ap (λ (start : ℕ). decodedWith (crcFrom start (take 12 slot)) slot) (l .loop .inv .0)
     ∙ decoded-from (seq-of l) slot
     ∙ ap (decoded (seq-of l)) (g .before .slot .ensures)
 
-abbrev turn : tie.After-find Inv-loop μ-loop → tie.After-is-erased Inv-loop μ-loop
-turn f = f .before .before .before .before .before .before .before .before
+-- the turn in which `find` is called, and the record that it looks for
+abbrev turn : tie.After-find Inv-loop μ-loop → tie.At-loop Inv-loop μ-loop
+turn f = at-loop (tested-at (read-at f))
 
 abbrev raw-of : tie.After-find Inv-loop μ-loop → Raw
-raw-of f = f .before .before .before .before .before .before .decode-from .result .raw
+raw-of f = read-at f .decode-from .result .raw
 
-abbrev held : (f : tie.After-find Inv-loop μ-loop) →
-    let l = at-loop (turn f) in
+-- all that the loop holds in this turn; the laws below read the table and the lists off it, so these are left to `_`
+abbrev held : (f : tie.After-find Inv-loop μ-loop) → let l = turn f in
     Scanning (seq-of l) (slots-of l) (l .loop .table) (l .loop .tags) (l .loop .ids) (l .loop .count) (l .loop .head) (l .loop .k)
-held f = at-loop (turn f) .loop .inv .1
+held f = turn f .loop .inv .1
 
-going : (f : tie.After-find Inv-loop μ-loop) → at-loop (turn f) .loop .k < 256
-going f = turn f .before .before .loop-test .taken
+going : (f : tie.After-find Inv-loop μ-loop) → turn f .loop .k < 256
+going f = tested-at (read-at f) .before .before .loop-test .taken
 
-used : (f : tie.After-find Inv-loop μ-loop) → let l = at-loop (turn f) in allAre 0xFF (slots-of l (l .loop .k)) ≡ false
-used f = sym (erased-is (turn f)) ∙ f .before .before .before .before .before .before .before .if1 .left
+used : (f : tie.After-find Inv-loop μ-loop) → let l = turn f in allAre 0xFF (slots-of l (l .loop .k)) ≡ false
+used f = let d = read-at f in sym (erased-is (tested-at d)) ∙ d .before .if1 .left
 
-record-is : (f : tie.After-find Inv-loop μ-loop) → let l = at-loop (turn f) in decoded (seq-of l) (slots-of l (l .loop .k)) ≡ some (raw-of f)
+record-is : (f : tie.After-find Inv-loop μ-loop) → let l = turn f in decoded (seq-of l) (slots-of l (l .loop .k)) ≡ some (raw-of f)
 record-is f =
-    let d = f .before .before .before .before .before .before in
+    let d = read-at f in
     let there = not-false (d .decode-from .result .some) (f .before .before .before .before .if2 .left) in
     sym (decoded-is d) ∙ (λ i. record { some = there i; raw = raw-of f })
 
 -- the place that `find` answered is the key's place in the table
 place-is : (f : tie.After-find Inv-loop μ-loop) → f .find .result ≡ placeOf (raw-of f .tag) (raw-of f .id) (held f .found)
-place-is f =
-    let l = at-loop (turn f) in
-    f .find .ensures
-    ∙ place-found (seq-of l) (slots-of l) (l .loop .table) (l .loop .tags) (l .loop .ids) (l .loop .count) (l .loop .head) (l .loop .k)
-    (held f) (going f) (raw-of f .tag) (raw-of f .id)
+place-is f = f .find .ensures ∙ place-found _ _ _ _ _ _ _ _ (held f) (going f) (raw-of f .tag) (raw-of f .id)
 
 -- the record that stands there
-there-is : (f : tie.After-find Inv-loop μ-loop) → f .find .result < at-loop (turn f) .loop .count
-    → getD (at-loop (turn f) .loop .table) (f .find .result) nowhere
+there-is : (f : tie.After-find Inv-loop μ-loop) → f .find .result < turn f .loop .count
+    → getD (turn f .loop .table) (f .find .result) nowhere
     ≡ getD (held f .found) (placeOf (raw-of f .tag) (raw-of f .id) (held f .found)) nowhere
 there-is f h =
     ap₂ (λ (l : List Raw) (n : ℕ). getD l n nowhere) (held f .standing) (place-is f)
@@ -134,8 +144,7 @@ loop-again c =
     let g = c .before in
     let l = at-loop g .loop in (
       l .inv .0,
-      pass (seq-of (at-loop g)) (slots-of (at-loop g)) (l .table) (l .tags) (l .ids) (l .count) (l .head) (l .k) (l .inv .1) (omega arith)
-          (sym (erased-is g) ∙ c .if1 .taken),
+      pass _ _ _ _ _ _ _ _ (l .inv .1) (omega arith) (sym (erased-is g) ∙ c .if1 .taken),
     )
 
 cast-head : tie.Need-cast-head Inv-loop μ-loop
@@ -150,19 +159,19 @@ loop-less-2 c = omega arith
 loop-again-2 : tie.Need-loop-again-2 Inv-loop μ-loop
 loop-again-2 c =
     let d = c .before .before in
-    let g = d .before .before in
+    let g = tested-at d in
     let l = at-loop g .loop in (
       l .inv .0,
-      skip (seq-of (at-loop g)) (slots-of (at-loop g)) (l .table) (l .tags) (l .ids) (l .count) (l .head) (l .k) (l .inv .1) (omega arith)
+      skip _ _ _ _ _ _ _ _ (l .inv .1) (omega arith)
           (sym (erased-is g) ∙ d .before .if1 .left)
           (ap (λ (o : OptRaw). o .some) (sym (decoded-is d)) ∙ not-true (d .decode-from .result .some) (c .if2 .taken)),
     )
 
 slice-aggregate-find : tie.Need-slice-aggregate-find Inv-loop μ-loop
-slice-aggregate-find c = sym (at-loop (c .before .before .before .before .before .before) .loop .inv .1 .tags-long)
+slice-aggregate-find c = sym (at-loop (tested-at (decoded-at c)) .loop .inv .1 .tags-long)
 
 slice-aggregate-find-2 : tie.Need-slice-aggregate-find-2 Inv-loop μ-loop
-slice-aggregate-find-2 c = sym (at-loop (c .before .before .before .before .before .before .before) .loop .inv .1 .ids-long)
+slice-aggregate-find-2 c = sym (at-loop (tested-at (decoded-at (c .before))) .loop .inv .1 .ids-long)
 
 find-requires : tie.Need-find-requires Inv-loop μ-loop
 find-requires c κs = omega arith
@@ -188,14 +197,13 @@ loop-less-3 c = omega arith
 loop-again-3 : tie.Need-loop-again-3 Inv-loop μ-loop
 loop-again-3 c =
     let f = c .before .before .before .before in
-    let l = at-loop (turn f) in (
-      l .loop .inv .0,
+    let there = c .before .before .before .if3 .taken in
+    let stands = getD (turn f .loop .table) (f .find .result) nowhere in (
+      turn f .loop .inv .0,
       rw (place-is f)
-          (replace (seq-of l) (slots-of l) (l .loop .table) (l .loop .tags) (l .loop .ids) (l .loop .count) (l .loop .head) (l .loop .k)
-          (held f) (going f) (used f) (raw-of f) (record-is f) (omega (arith, place-is f, c .before .before .before .if3 .taken))
-          (ap (falls (raw-of f)) (sym (there-is f (c .before .before .before .if3 .taken)))
-          ∙ not-true (falls (raw-of f) (getD (l .loop .table) (f .find .result) nowhere))
-          (sym (c .before .replaces .ensures) ∙ c .if4 .taken))),
+          (replace _ _ _ _ _ _ _ _ (held f) (going f) (used f) (raw-of f) (record-is f) (omega (arith, place-is f, there))
+          (ap (falls (raw-of f)) (sym (there-is f there))
+          ∙ not-true (falls (raw-of f) stands) (sym (c .before .replaces .ensures) ∙ c .if4 .taken))),
     )
 
 loop-less-4 : tie.Need-loop-less-4 Inv-loop μ-loop
@@ -204,13 +212,12 @@ loop-less-4 c = omega arith
 loop-again-4 : tie.Need-loop-again-4 Inv-loop μ-loop
 loop-again-4 c =
     let f = c .before .before .before .before in
-    let l = at-loop (turn f) in (
-      l .loop .inv .0,
-      keep (seq-of l) (slots-of l) (l .loop .table) (l .loop .tags) (l .loop .ids) (l .loop .count) (l .loop .head) (l .loop .k) (held f)
-          (going f) (used f) (raw-of f) (record-is f) (omega (arith, place-is f, c .before .before .before .if3 .taken))
-          (ap (falls (raw-of f)) (sym (there-is f (c .before .before .before .if3 .taken)))
-          ∙ not-false (falls (raw-of f) (getD (l .loop .table) (f .find .result) nowhere))
-          (sym (c .before .replaces .ensures) ∙ c .if4 .left)),
+    let there = c .before .before .before .if3 .taken in
+    let stands = getD (turn f .loop .table) (f .find .result) nowhere in (
+      turn f .loop .inv .0,
+      keep _ _ _ _ _ _ _ _ (held f) (going f) (used f) (raw-of f) (record-is f) (omega (arith, place-is f, there))
+          (ap (falls (raw-of f)) (sym (there-is f there))
+          ∙ not-false (falls (raw-of f) stands) (sym (c .before .replaces .ensures) ∙ c .if4 .left)),
     )
 
 unreadable-requires : tie.Need-unreadable-requires Inv-loop μ-loop
@@ -219,13 +226,10 @@ unreadable-requires c κs = tt
 returns : tie.Need-returns Inv-loop μ-loop
 returns c =
     let f = c .before .before .before in
-    let l = at-loop (turn f) in
     c .unreadable .ensures
     ∙ ap (regionRead _ _ _)
-    (sym
-    (full (seq-of l) (slots-of l) (l .loop .table) (l .loop .tags) (l .loop .ids) (l .loop .count) (l .loop .head) (l .loop .k)
-    (held f) (going f) (used f) (raw-of f) (record-is f) (omega (arith, place-is f, c .before .before .if3 .left))
-    (c .before .if5 .taken)))
+    (sym (full _ _ _ _ _ _ _ _ (held f) (going f) (used f) (raw-of f) (record-is f)
+    (omega (arith, place-is f, c .before .before .if3 .left)) (c .before .if5 .taken)))
 
 mul-table-2 : tie.Need-mul-table-2 Inv-loop μ-loop
 mul-table-2 c = omega arith
@@ -247,11 +251,9 @@ loop-less-5 c = omega arith
 
 loop-again-5 : tie.Need-loop-again-5 Inv-loop μ-loop
 loop-again-5 c =
-    let f = c .before .before in
-    let l = at-loop (turn f) in (
-      l .loop .inv .0,
-      add (seq-of l) (slots-of l) (l .loop .table) (l .loop .tags) (l .loop .ids) (l .loop .count) (l .loop .head) (l .loop .k) (held f)
-          (going f) (used f) (raw-of f) (record-is f) (omega (arith, place-is f, c .before .if3 .left))
+    let f = c .before .before in (
+      turn f .loop .inv .0,
+      add _ _ _ _ _ _ _ _ (held f) (going f) (used f) (raw-of f) (record-is f) (omega (arith, place-is f, c .before .if3 .left))
           (omega (arith, held f .most, c .if5 .left)),
     )
 
@@ -263,7 +265,7 @@ returns-2 c =
     let l = c .before in
     let s = l .loop .inv .1 in
     let done : 256 ≤ l .loop .k = c .loop-test .left in
-    let sector = l .before .before .before .before .args .sector in
+    let sector = start-of l .args .sector in
     let read = sym (s .rest) ∙ read-end (seq-of l) (slots-of l) (l .loop .k) (these (s .found)) done in
     let standing-back = sym (s .standing) in
     let headed = sym (s .heads) ∙ head-end (seq-of l) (slots-of l) (l .loop .k) (l .loop .head) done in
