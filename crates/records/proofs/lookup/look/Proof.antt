@@ -6,6 +6,16 @@ use borrow.Author.Needs.{needs}
 use Rattle.records.proofs.lookup.look.Statement.{statement}
 use Rattle.records.proofs.lookup.look.Tie as tie
 
+-- from each test of the log back to the one before it
+abbrev start-of : tie.Else1 → tie.Start
+start-of e = e .before .before .before
+
+abbrev counted-at : tie.After-state-fits → tie.Else1
+counted-at f = f .before .before
+
+abbrev state-at : tie.After-zeros-past → tie.After-state-fits
+state-at z = z .before .before
+
 misfit-requires : tie.Need-misfit-requires
 misfit-requires c κs = search needs
 
@@ -19,7 +29,7 @@ misfit-requires-2 c κs = search needs
 
 returns-2 : tie.Need-returns-2
 returns-2 c =
-    let a = c .before .before .before .before .before .args in
+    let a = start-of (c .before .before) .args in
     c .misfit2 .ensures ∙ too-many (a .sectors) (a .tag) (a .id) (a .log) (c .before .if2 .taken)
 
 state-fits-requires : tie.Need-state-fits-requires
@@ -30,8 +40,8 @@ misfit-requires-3 c κs = search needs
 
 returns-3 : tie.Need-returns-3
 returns-3 c =
-    let a = c .before .before .before .before .before .before .before .args in
     let f = c .before .before in
+    let a = start-of (counted-at f) .args in
     c .misfit3 .ensures
     ∙ bad-state (a .sectors) (a .tag) (a .id) (a .log)
     (sym (f .state-fits .ensures) ∙ not-true (f .state-fits .result) (c .before .if3 .taken))
@@ -44,8 +54,8 @@ misfit-requires-4 c κs = search needs
 
 returns-4 : tie.Need-returns-4
 returns-4 c =
-    let a = c .before .before .before .before .before .before .before .before .before .args in
     let z = c .before .before in
+    let a = start-of (counted-at (state-at z)) .args in
     c .misfit4 .ensures
     ∙ bad-places (a .sectors) (a .tag) (a .id) (a .log)
     (sym (z .zeros-past .ensures) ∙ not-true (z .zeros-past .result) (c .before .if4 .taken))
@@ -55,12 +65,13 @@ survey-requires c κs = search needs
 
 returns-5 : tie.Need-returns-5
 returns-5 c =
-    let a = c .before .before .before .before .before .before .before .before .before .args in
     let z = c .before .before in
-    let f = z .before .before in
+    let f = state-at z in
+    let e = counted-at f in
+    let a = start-of e .args in
     c .survey .ensures
     ∙ by-keys (a .sectors) (a .tag) (a .id) (a .log)
-    (f .before .before .if1 .left)
+    (e .if1 .left)
     (f .before .if2 .left)
     (sym (f .state-fits .ensures) ∙ not-false (f .state-fits .result) (z .before .if3 .left))
     (sym (z .zeros-past .ensures) ∙ not-false (z .zeros-past .result) (c .before .if4 .left))

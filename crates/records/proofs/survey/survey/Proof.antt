@@ -23,24 +23,31 @@ abbrev μ-loop : tie.MeasureT-loop
 μ-loop count tag id table met₀ tags₀ ids₀ at₀ held₀ i₀ met tags ids at held i = count - i
 
 -- what is known of a turn, at the places where it is first known
+abbrev start-of : tie.At-loop Inv-loop μ-loop → tie.Start Inv-loop μ-loop
+start-of l = l .before .before
+
+-- the turn, from where its record has been read and isn't blank
+abbrev turn : tie.After-struct-known2 Inv-loop μ-loop → tie.In-loop Inv-loop μ-loop
+turn r = r .before .before .before .before
+
 abbrev records-of : tie.At-loop Inv-loop μ-loop → List Raw
-records-of l = take (l .before .before .args .count) (l .before .before .args .t1)
+records-of l = take (start-of l .args .count) (start-of l .args .t1)
 
 abbrev record-of : tie.At-loop Inv-loop μ-loop → Raw
-record-of l = getD (l .before .before .args .t1) (l .loop .i) nowhere
+record-of l = getD (start-of l .args .t1) (l .loop .i) nowhere
 
 more : (t : tie.In-loop Inv-loop μ-loop) → t .before .loop .i < length (records-of (t .before))
 more t = omega arith
 
 here : (t : tie.In-loop Inv-loop μ-loop) → getD (records-of (t .before)) (t .before .loop .i) nowhere ≡ record-of (t .before)
-here t = let a = t .before .before .before .args in getD-take (a .count) (a .t1) (t .before .loop .i) nowhere (t .loop-test .taken)
+here t = let a = start-of (t .before) .args in getD-take (a .count) (a .t1) (t .before .loop .i) nowhere (t .loop-test .taken)
 
 abbrev Fresh : tie.At-loop Inv-loop μ-loop → Type 0
 Fresh l = holds (record-of l .tag) (record-of l .id) (take (l .loop .i) (records-of l)) ≡ false
 
-fresh : (j : tie.Joined2 Inv-loop μ-loop) → Fresh (j .before .before .before .before .before .before)
+fresh : (j : tie.Joined2 Inv-loop μ-loop) → Fresh (turn (j .before) .before)
 fresh j =
-    let l = j .before .before .before .before .before .before in
+    let l = turn (j .before) .before in
     let s = l .loop .inv .1 in
     ⊎-elim {C = Fresh l} (λ w. not-met s _ _ (rw (w .3 .ensures) at (w .4 .left))) (λ w. s .unmet _ _ (w .left)) (j .if2 .came)
 
@@ -88,7 +95,7 @@ misfit-requires-2 c κs = tt
 returns-2 : tie.Need-returns-2 Inv-loop μ-loop
 returns-2 c =
     let f = c .before .before in
-    let t = f .before .before .before .before .before .before .before .before in
+    let t = turn (f .before .before .before .before) in
     let s = t .before .loop .inv .1 in
     c .misfit2 .ensures ∙ twice s (more t) (here t) (is-met s _ _ (rw (f .find .ensures) at (c .before .if3 .taken)))
 
@@ -111,10 +118,10 @@ loop-again : tie.Need-loop-again Inv-loop μ-loop
 loop-again c =
     let j = c .before .before in
     let g = j .before in
-    let t = g .before .before .before .before in
+    let t = turn g in
     let s = t .before .loop .inv .1 in
     let r = record-of (t .before) in
-    let a = t .before .before .before .args in (
+    let a = start-of (t .before) .args in (
       t .before .loop .inv .0,
       ⊎-elim
           (λ w.
