@@ -9,35 +9,46 @@ use borrow.Author.Needs.{needs}
 use Rattle.sectors.proofs.program.Statement.{statement}
 use Rattle.sectors.proofs.program.Tie as tie
 
+-- from each call back to the one before it
+abbrev start-of : tie.After-to-program → tie.Start
+start-of p = p .before .before .before
+
+abbrev power-at : tie.After-program-slot → tie.After-to-program
+power-at s = s .before .before
+
+abbrev programmed-at : tie.After-after-program → tie.After-program-slot
+programmed-at a = a .before .before .before
+
 to-program-requires : tie.Need-to-program-requires
 to-program-requires c κs = search needs
 
 program-slot-requires : tie.Need-program-slot-requires
 program-slot-requires c κs =
-    let s0 = c .before .before .before .before in
-    (s0 .pre .0, rw (c .before .to-program .ensures) (to-program-most (s0 .args .used .plan)), s0 .pre .1)
+    let start = start-of (c .before) in
+    (start .pre .0, rw (c .before .to-program .ensures) (to-program-most (start .args .used .plan)), start .pre .1)
 
 after-program-requires : tie.Need-after-program-requires
 after-program-requires c κs = search needs
 
 add-t12 : tie.Need-add-t12
 add-t12 c =
-    let s0 = c .before .before .before .before .before .before .before .before .before in
-    omega (arith, s0 .pre .2, c .before .before .before .before .before .before .to-program .ensures, to-program-most (s0 .args .used .plan))
+    let power = power-at (programmed-at (c .before)) in
+    let start = start-of power in
+    omega (arith, start .pre .2, power .to-program .ensures, to-program-most (start .args .used .plan))
 
 same-length : tie.Need-same-length
 same-length c = search needs
 
 returns : tie.Need-returns
 returns c = λ cut.
-    let s0 = c .before .before .before .before .before .before .before .before .before in
-    let a = s0 .args in
+    let told = c .before in
+    let done = programmed-at told in
+    let power = power-at done in
+    let a = start-of power .args in
     let run =
-    program-run (a .sector) (a .slot) (a .bytes) (flashWith (a .image .now) (a .used) cut)
-    (c .before .before .before .before .before .before .to-program .result) (c .before .before .before .before .program-slot .result)
-    (c .before .before .before .before .program-slot .last .0) (c .before .after-program .result)
-    (c .before .before .before .before .before .before .to-program .ensures) (c .before .before .before .before .program-slot .ensures .0)
-    (c .before .before .before .before .program-slot .ensures .1) (c .before .after-program .ensures) in
+    program-run (a .sector) (a .slot) (a .bytes) (flashWith (a .image .now) (a .used) cut) (power .to-program .result)
+    (done .program-slot .result) (done .program-slot .last .0) (told .after-program .result) (power .to-program .ensures)
+    (done .program-slot .ensures .0) (done .program-slot .ensures .1) (told .after-program .ensures) in
     record {
       shown = ap (λ (o : Stepped). record { answer = o .answer; used = usedOf (o .flash) }) (sym run);
       left = ap (λ (o : Stepped). o .flash .image) (sym run);

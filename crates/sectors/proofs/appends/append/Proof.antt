@@ -21,6 +21,9 @@ use Rattle.sectors.proofs.appends.append.Tie as tie
 abbrev start-of : tie.After-try-slots → tie.Start
 start-of t = t .before .before .before .before
 
+abbrev tried-at : tie.After-u → tie.After-try-slots
+tried-at u = u .before .before .before
+
 abbrev flash-of : tie.After-try-slots → Bool → Flash
 flash-of t cut = flashWith (start-of t .args .image .now) (start-of t .args .used) cut
 
@@ -63,11 +66,11 @@ cast-t19 : tie.Need-cast-t19
 cast-t19 c = search needs
 
 sector-after-requires : tie.Need-sector-after-requires
-sector-after-requires c κs = start-of (c .before .before .before .before) .pre .active
+sector-after-requires c κs = start-of (tried-at (c .before)) .pre .active
 
 commit-requires : tie.Need-commit-requires
 commit-requires c κs =
-    let t = c .before .before .before .before .before .before in
+    let t = tried-at (c .before .before .before) in
     let a = start-of t .args in
     let p = start-of t .pre in (
       record {
@@ -86,11 +89,12 @@ same-length c = search needs
 returns : tie.Need-returns
 returns c = λ cut.
     let q = c .before .before in
-    let t = q .before .before .before .before .before .before .before in
+    let full = q .before .before .before in
+    let t = tried-at (full .before) in
     let a = start-of t .args in
     rw
     (append-full (a .sectors) (a .sector) (a .seq) (a .head) (a .next-seq) (a .«record») (records-of t) (flash-of t cut)
-    (shown-of t cut) (tried-is t cut) (q .before .before .before .if1 .taken))
+    (shown-of t cut) (tried-is t cut) (full .if1 .taken))
     (rw (q .before .before .sector-after .ensures) at (q .commit .ensures (trying t cut .flash .cut)))
 
 same-length-2 : tie.Need-same-length-2
@@ -98,7 +102,7 @@ same-length-2 c = search needs
 
 returns-2 : tie.Need-returns-2
 returns-2 c = λ cut.
-    let t = c .before .before .before .before in
+    let t = tried-at (c .before) in
     let a = start-of t .args in
     rw
     (append-tried (a .sectors) (a .sector) (a .seq) (a .head) (a .next-seq) (a .«record») (records-of t) (flash-of t cut)

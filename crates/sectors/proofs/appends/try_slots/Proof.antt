@@ -35,7 +35,10 @@ flash-of l now = flashWith (l .loop .image) (l .loop .u) now
 abbrev at-loop : tie.After-program Inv-loop μ-loop → tie.At-loop Inv-loop μ-loop
 at-loop p = p .before .before .before .before
 
--- the try of a turn
+abbrev tried-at : tie.After-is-done Inv-loop μ-loop → tie.After-program Inv-loop μ-loop
+tried-at d = d .before .before .before .before
+
+-- the try of a turn; in the laws of a turn below, each `_` is what the loop holds, as its invariant has it
 abbrev turn : tie.At-loop Inv-loop μ-loop → Bool → Stepped
 turn l now = program (start-of l .args .sector) (l .loop .h) (start-of l .args .bytes) (flash-of l now)
 
@@ -66,8 +69,7 @@ returns c = λ cut.
     let now = l .loop .inv .4 cut .0 in
     rw
     (sym (l .loop .inv .4 cut .1)
-    ∙ tries-full (l .loop .left) (a .sector) (l .loop .h) (a .bytes) (l .loop .answer) (flash-of l now) (c .before .loop-test .taken)
-    (c .if1 .taken))
+    ∙ tries-full _ _ _ _ _ _ (c .before .loop-test .taken) (c .if1 .taken))
     (record { shown = refl; left = refl })
 
 cast-program : tie.Need-cast-program Inv-loop μ-loop
@@ -86,18 +88,17 @@ is-done-requires : tie.Need-is-done-requires Inv-loop μ-loop
 is-done-requires c κs = tt
 
 same-length-2 : tie.Need-same-length-2 Inv-loop μ-loop
-same-length-2 c = let p = c .before .before .before .before .before in p .program .kept .0 ∙ at-loop p .loop .inv .2
+same-length-2 c = let p = tried-at (c .before) in p .program .kept .0 ∙ at-loop p .loop .inv .2
 
 returns-2 : tie.Need-returns-2 Inv-loop μ-loop
 returns-2 c = λ cut.
-    let p = c .before .before .before .before .before in
+    let p = tried-at (c .before) in
     let l = at-loop p in
     let a = start-of l .args in
     let now = l .loop .inv .4 cut .0 in
     let done = ap (λ (o : Stepped). isDone (o .answer)) (turn-is p now) ∙ sym (c .before .is-done .ensures) ∙ c .if2 .taken in
     let came =
-    tries-done (l .loop .left) (a .sector) (l .loop .h) (a .bytes) (l .loop .answer) (flash-of l now)
-    (p .before .before .before .loop-test .taken) (p .before .before .if1 .left) done
+    tries-done _ _ _ _ _ _ (p .before .before .before .loop-test .taken) (p .before .before .if1 .left) done
     ∙ ap (λ (o : Stepped). record { full = false; answer = Done; head = l .loop .h + 1; flash = o .flash }) (turn-is p now) in
     rw (sym (l .loop .inv .4 cut .1) ∙ came) (record { shown = refl; left = refl })
 
@@ -106,7 +107,7 @@ loop-less c = omega arith
 
 loop-again : tie.Need-loop-again Inv-loop μ-loop
 loop-again c =
-    let p = c .before .before .before .before .before in
+    let p = tried-at (c .before) in
     let l = at-loop p in
     let a = start-of l .args in (
       omega (arith, l .loop .inv .0, p .before .before .if1 .left),
@@ -119,8 +120,7 @@ loop-again c =
             turn l now .flash .cut,
             ap (λ (o : Stepped). triesFrom (l .loop .left - 1) (a .sector) (l .loop .h + 1) (a .bytes) (o .answer) (o .flash)) (sym (turn-is p now))
                 ∙ sym
-                (tries-on (l .loop .left) (a .sector) (l .loop .h) (a .bytes) (l .loop .answer) (flash-of l now)
-                (p .before .before .before .loop-test .taken) (p .before .before .if1 .left) failed)
+                (tries-on _ _ _ _ _ _ (p .before .before .before .loop-test .taken) (p .before .before .if1 .left) failed)
                 ∙ l .loop .inv .4 cut .1,
           ),
     )
@@ -135,8 +135,7 @@ returns-3 c = λ cut.
     let now = l .loop .inv .4 cut .0 in
     rw
     (sym (l .loop .inv .4 cut .1)
-    ∙ tries-end (l .loop .left) (a .sector) (l .loop .h) (a .bytes) (l .loop .answer) (flash-of l now)
-    (omega (arith, c .loop-test .left)))
+    ∙ tries-end _ _ _ _ _ _ (omega (arith, c .loop-test .left)))
     (record { shown = refl; left = refl })
 
 pub try-slots-spec : {M : Type 1} → statement M

@@ -50,10 +50,20 @@ records-long l =
 abbrev flash-of : tie.At-loop Inv-loop μ-loop → Bool → Flash
 flash-of l now = flashWith (l .loop .image) (l .loop .u) now
 
-abbrev at-loop : tie.After-write-sector Inv-loop μ-loop → tie.At-loop Inv-loop μ-loop
-at-loop w = w .before .before .before .before .before .before
+-- from each step of a turn back to the one that the proof needs before it
+abbrev tested-at : tie.Else2 Inv-loop μ-loop → tie.After-sector-after Inv-loop μ-loop
+tested-at e = e .before .before
 
--- the sector of a turn
+abbrev begun-at : tie.After-write-sector Inv-loop μ-loop → tie.After-sector-after Inv-loop μ-loop
+begun-at w = tested-at (w .before .before)
+
+abbrev at-loop : tie.After-write-sector Inv-loop μ-loop → tie.At-loop Inv-loop μ-loop
+at-loop w = begun-at w .before .before
+
+abbrev written-at : tie.After-is-done Inv-loop μ-loop → tie.After-write-sector Inv-loop μ-loop
+written-at d = d .before .before .before .before
+
+-- the sector of a turn; in the laws of a turn below, each `_` is what the loop holds, as its invariant has it
 abbrev turn : tie.At-loop Inv-loop μ-loop → Bool → Stepped
 turn l now = writeSector (l .loop .s) (l .loop .next) (records-of l) (flash-of l now)
 
@@ -106,8 +116,7 @@ loop-again c =
                 (flash-of l now))
                 (c .before .sector-after .ensures)
                 ∙ sym
-                (commit-skip (l .loop .left) (a .sectors) (a .avoid) (l .loop .s) (records-of l) (l .loop .answer) (a .state)
-                (l .loop .next) (flash-of l now) (c .before .before .loop-test .taken) (c .if1 .taken))
+                (commit-skip _ _ _ _ _ _ _ _ _ (c .before .before .loop-test .taken) (c .if1 .taken))
                 ∙ l .loop .inv .6 cut .1,
           ),
     )
@@ -122,13 +131,12 @@ returns c = λ cut.
     let now = l .loop .inv .6 cut .0 in
     rw
     (sym (l .loop .inv .6 cut .1)
-    ∙ commit-used-up (l .loop .left) (a .sectors) (a .avoid) (l .loop .s) (records-of l) (l .loop .answer) (a .state) (l .loop .next)
-    (flash-of l now) (c .before .before .before .loop-test .taken) (c .before .if1 .left) (c .if2 .taken))
+    ∙ commit-used-up _ _ _ _ _ _ _ _ _ (c .before .before .before .loop-test .taken) (c .before .if1 .left) (c .if2 .taken))
     (record { shown = refl; left = refl })
 
 write-sector-requires : tie.Need-write-sector-requires Inv-loop μ-loop
 write-sector-requires c κs =
-    let l = c .before .before .before .before .before in
+    let l = tested-at (c .before) .before .before in
     let p = start-of l .pre .0 in (
       p .few,
       omega (arith, l .loop .inv .0, l .loop .inv .3, p .sized),
@@ -152,18 +160,17 @@ add-t26 : tie.Need-add-t26 Inv-loop μ-loop
 add-t26 c = omega arith
 
 same-length-2 : tie.Need-same-length-2 Inv-loop μ-loop
-same-length-2 c = let w = c .before .before .before .before .before in w .write-sector .kept .0 ∙ at-loop w .loop .inv .3
+same-length-2 c = let w = written-at (c .before) in w .write-sector .kept .0 ∙ at-loop w .loop .inv .3
 
 returns-2 : tie.Need-returns-2 Inv-loop μ-loop
 returns-2 c = λ cut.
-    let w = c .before .before .before .before .before in
+    let w = written-at (c .before) in
     let l = at-loop w in
     let a = start-of l .args in
     let now = l .loop .inv .6 cut .0 in
     let done = ap (λ (o : Stepped). isDone (o .answer)) (turn-is w now) ∙ sym (c .before .is-done .ensures) ∙ c .if3 .taken in
     let came =
-    commit-done (l .loop .left) (a .sectors) (a .avoid) (l .loop .s) (records-of l) (l .loop .answer) (a .state) (l .loop .next)
-    (flash-of l now) (w .before .before .before .before .before .loop-test .taken) (w .before .before .before .if1 .left)
+    commit-done _ _ _ _ _ _ _ _ _ (begun-at w .before .loop-test .taken) (w .before .before .before .if1 .left)
     (w .before .before .if2 .left) done
     ∙ ap₂
     (λ (n : ℕ) (o : Stepped).
@@ -176,10 +183,10 @@ loop-less-2 c = omega arith
 
 loop-again-2 : tie.Need-loop-again-2 Inv-loop μ-loop
 loop-again-2 c =
-    let w = c .before .before .before .before .before in
+    let w = written-at (c .before) in
     let l = at-loop w in
     let a = start-of l .args in
-    let t = w .before .before .before .before in (
+    let t = begun-at w in (
       rw (t .sector-after .ensures) (after-within (a .sectors) (l .loop .s) (l .loop .inv .0)),
       omega (arith, l .loop .inv .1),
       omega (arith, l .loop .inv .2, w .before .before .if2 .left),
@@ -196,8 +203,7 @@ loop-again-2 c =
                 (o .flash))
                 (t .sector-after .ensures) (sym (turn-is w now))
                 ∙ sym
-                (commit-on (l .loop .left) (a .sectors) (a .avoid) (l .loop .s) (records-of l) (l .loop .answer) (a .state)
-                (l .loop .next) (flash-of l now) (t .before .loop-test .taken) (w .before .before .before .if1 .left)
+                (commit-on _ _ _ _ _ _ _ _ _ (t .before .loop-test .taken) (w .before .before .before .if1 .left)
                 (w .before .before .if2 .left) failed)
                 ∙ l .loop .inv .6 cut .1,
           ),
@@ -213,8 +219,7 @@ returns-3 c = λ cut.
     let now = l .loop .inv .6 cut .0 in
     rw
     (sym (l .loop .inv .6 cut .1)
-    ∙ commit-end (l .loop .left) (a .sectors) (a .avoid) (l .loop .s) (records-of l) (l .loop .answer) (a .state) (l .loop .next)
-    (flash-of l now) (omega (arith, c .loop-test .left)))
+    ∙ commit-end _ _ _ _ _ _ _ _ _ (omega (arith, c .loop-test .left)))
     (record { shown = refl; left = refl })
 
 pub commit-spec : {M : Type 1} → statement M

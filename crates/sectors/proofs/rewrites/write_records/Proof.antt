@@ -10,7 +10,7 @@ use borrow.Author.Tests.{not-true, not-false}
 use Rattle.codec.specs.declared.Raw.{Raw}
 use Rattle.codec.specs.Slots.{seqFed, crcFrom, sealed, bytesOf, slotOf}
 use Rattle.codec.proofs.SlotsLaws.{sealed-from}
-use Rattle.flash.specs.Run.{Stepped, program}
+use Rattle.flash.specs.Run.{Flash, Stepped, program}
 use Rattle.records.proofs.TableJoining.{nowhere}
 use Rattle.basics.specs.Answers.{isDone}
 use Rattle.sectors.specs.declared.Step.{Step}
@@ -36,6 +36,9 @@ abbrev μ-loop : tie.MeasureT-loop
 abbrev at-loop : tie.After-program Inv-loop μ-loop → tie.At-loop Inv-loop μ-loop
 at-loop p = p .before .before .before .before .before
 
+abbrev written-at : tie.After-is-done Inv-loop μ-loop → tie.After-program Inv-loop μ-loop
+written-at d = d .before .before .before
+
 abbrev start-of : tie.At-loop Inv-loop μ-loop → tie.Start Inv-loop μ-loop
 start-of l = l .before .before .before
 
@@ -47,9 +50,12 @@ records-long l =
     length-take-le (start-of l .args .count) (start-of l .args .t4)
     (omega (arith, start-of l .pre .0, start-of l .good .1 .1 .1 .0 .1 .0 .1))
 
--- the step of a turn, from the flash as it stands
+abbrev flash-of : tie.At-loop Inv-loop μ-loop → Bool → Flash
+flash-of l now = flashWith (l .loop .image) (l .loop .u) now
+
+-- the step of a turn, from the flash as it stands; in the laws of a turn below, each `_` is what the loop holds, as its invariant has it
 abbrev turn : tie.At-loop Inv-loop μ-loop → Bool → Stepped
-turn l now = one (start-of l .args .sector) (start-of l .args .seq) (records-of l) (l .loop .i) (flashWith (l .loop .image) (l .loop .u) now)
+turn l now = one (start-of l .args .sector) (start-of l .args .seq) (records-of l) (l .loop .i) (flash-of l now)
 
 stepped : (p : tie.After-program Inv-loop μ-loop) (now : Bool) → ShowsStep (turn (at-loop p) now) (p .program .result) (p .program .last .0)
 stepped p now =
@@ -70,8 +76,8 @@ cheap p =
     let a = start-of l .args in
     let same = ap (λ (r : Step). r .used .programmed) (stepped p true .shown) in
     let most =
-    program-within (a .sector) (l .loop .i + 1) (slotOf (a .seq) (getD (records-of l) (l .loop .i) nowhere))
-    (flashWith (l .loop .image) (l .loop .u) true) .programmed in
+    program-within (a .sector) (l .loop .i + 1) (slotOf (a .seq) (getD (records-of l) (l .loop .i) nowhere)) (flash-of l true)
+    .programmed in
     omega (arith, same, most, l .loop .inv .3)
 
 under-requires : tie.Need-under-requires Inv-loop μ-loop
@@ -99,18 +105,16 @@ is-done-requires : tie.Need-is-done-requires Inv-loop μ-loop
 is-done-requires c κs = tt
 
 same-length : tie.Need-same-length Inv-loop μ-loop
-same-length c = c .before .before .before .before .program .kept .0 ∙ at-loop (c .before .before .before .before) .loop .inv .2
+same-length c = let p = written-at (c .before) in p .program .kept .0 ∙ at-loop p .loop .inv .2
 
 returns : tie.Need-returns Inv-loop μ-loop
 returns c = λ cut.
-    let p = c .before .before .before .before in
+    let p = written-at (c .before) in
     let l = at-loop p in
     let now = l .loop .inv .4 cut .0 in
     let failed = sym (c .before .is-done .ensures) ∙ not-true (c .before .is-done .result) (c .if1 .taken) in
     let answered = ap (λ (r : Step). isDone (r .answer)) (stepped p now .shown) in
-    let stop =
-    records-stop (start-of l .args .sector) (start-of l .args .seq) (records-of l) (l .loop .i)
-    (flashWith (l .loop .image) (l .loop .u) now) (omega (arith, records-long l)) (sym answered ∙ failed) in
+    let stop = records-stop _ _ (records-of l) (l .loop .i) (flash-of l now) (omega (arith, records-long l)) (sym answered ∙ failed) in
     rw (sym (l .loop .inv .4 cut .1) ∙ stop) (stepped p now)
 
 add-i : tie.Need-add-i Inv-loop μ-loop
@@ -121,7 +125,7 @@ loop-less c = omega arith
 
 loop-again : tie.Need-loop-again Inv-loop μ-loop
 loop-again c =
-    let p = c .before .before .before .before .before in
+    let p = written-at (c .before .before) in
     let l = at-loop p in (
       l .loop .inv .0,
       omega arith,
@@ -138,8 +142,7 @@ loop-again c =
                 (drop (l .loop .i + 1) (records-of l)) (o .flash))
                 (sym (step-is (turn l now) (p .program .result) (p .program .last .0) (stepped p now)))
                 ∙ sym
-                (records-on (start-of l .args .sector) (start-of l .args .seq) (records-of l) (l .loop .i)
-                (flashWith (l .loop .image) (l .loop .u) now) (omega (arith, records-long l)) (sym answered ∙ done))
+                (records-on _ _ (records-of l) (l .loop .i) (flash-of l now) (omega (arith, records-long l)) (sym answered ∙ done))
                 ∙ l .loop .inv .4 cut .1,
           ),
     )
@@ -151,9 +154,7 @@ returns-2 : tie.Need-returns-2 Inv-loop μ-loop
 returns-2 c = λ cut.
     let l = c .before in
     let now = l .loop .inv .4 cut .0 in
-    let end =
-    records-end (start-of l .args .sector) (start-of l .args .seq) (records-of l) (l .loop .i)
-    (flashWith (l .loop .image) (l .loop .u) now) (omega (arith, records-long l)) in
+    let end = records-end _ _ (records-of l) (l .loop .i) (flash-of l now) (omega (arith, records-long l)) in
     rw (sym (l .loop .inv .4 cut .1) ∙ end) (record { shown = refl; left = refl })
 
 pub write-records-spec : {M : Type 1} → statement M

@@ -27,17 +27,23 @@ first-flash e cut = flashWith (start-of e .args .image .now) (start-of e .args .
 abbrev records-of : tie.After-erase → List Raw
 records-of e = take (start-of e .args .count) (start-of e .args .table)
 
+abbrev erasing : tie.After-erase → Bool → Stepped
+erasing e cut = erase (start-of e .args .sector) (first-flash e cut)
+
 erased-is : (e : tie.After-erase) (cut : Bool)
-    → erase (start-of e .args .sector) (first-flash e cut)
-    ≡ record {
-      answer = e .erase .result .answer;
-      flash = flashWith (e .erase .last .0) (e .erase .result .used)
-          (erase (start-of e .args .sector) (first-flash e cut) .flash .cut);
-    }
-erased-is e cut = step-is (erase (start-of e .args .sector) (first-flash e cut)) (e .erase .result) (e .erase .last .0) (e .erase .ensures cut)
+    → erasing e cut
+    ≡ record { answer = e .erase .result .answer; flash = flashWith (e .erase .last .0) (e .erase .result .used) (erasing e cut .flash .cut) }
+erased-is e cut = step-is (erasing e cut) (e .erase .result) (e .erase .last .0) (e .erase .ensures cut)
+
+-- from each test back to the step that it tests, and from the records back to the erase
+abbrev tested-erase : tie.After-is-done → tie.After-erase
+tested-erase d = d .before .before .before
+
+abbrev tested-fill : tie.After-is-done2 → tie.After-write-records
+tested-fill d = d .before .before .before
 
 abbrev erased-at : tie.After-write-records → tie.After-erase
-erased-at w = w .before .before .before .before .before .before
+erased-at w = tested-erase (w .before .before .before)
 
 abbrev filling : tie.After-write-records → Bool → Stepped
 filling w cut = let e = erased-at w in filled (start-of e .args .sector) (start-of e .args .seq) (records-of e) (first-flash e cut)
@@ -45,8 +51,7 @@ filling w cut = let e = erased-at w in filled (start-of e .args .sector) (start-
 filled-shown : (w : tie.After-write-records) (cut : Bool) → ShowsStep (filling w cut) (w .write-records .result) (w .write-records .last .0)
 filled-shown w cut =
     let e = erased-at w in
-    let o = erase (start-of e .args .sector) (first-flash e cut) in
-    rw (ap (λ (x : Stepped). x .flash) (sym (erased-is e cut))) at (w .write-records .ensures (o .flash .cut))
+    rw (ap (λ (x : Stepped). x .flash) (sym (erased-is e cut))) at (w .write-records .ensures (erasing e cut .flash .cut))
 
 filled-is : (w : tie.After-write-records) (cut : Bool)
     → filling w cut
@@ -56,12 +61,10 @@ filled-is : (w : tie.After-write-records) (cut : Bool)
     }
 filled-is w cut = step-is (filling w cut) (w .write-records .result) (w .write-records .last .0) (filled-shown w cut)
 
-erase-done : (w : tie.After-write-records) (cut : Bool) →
-    let e = erased-at w in isDone (erase (start-of e .args .sector) (first-flash e cut) .answer) ≡ true
+erase-done : (w : tie.After-write-records) (cut : Bool) → isDone (erasing (erased-at w) cut .answer) ≡ true
 erase-done w cut =
-    let e = erased-at w in
     let d = w .before .before .before in
-    ap (λ (o : Stepped). isDone (o .answer)) (erased-is e cut)
+    ap (λ (o : Stepped). isDone (o .answer)) (erased-is (erased-at w) cut)
     ∙ sym (d .is-done .ensures)
     ∙ not-false (d .is-done .result) (w .before .before .if1 .left)
 
@@ -98,7 +101,7 @@ same-length c = search needs
 
 returns : tie.Need-returns
 returns c = λ cut.
-    let e = c .before .before .before .before in
+    let e = tested-erase (c .before) in
     let a = start-of e .args in
     let failed =
     ap (λ (o : Stepped). isDone (o .answer)) (erased-is e cut)
@@ -108,7 +111,7 @@ returns c = λ cut.
 
 write-records-requires : tie.Need-write-records-requires
 write-records-requires c κs =
-    let e = c .before .before .before .before .before in
+    let e = tested-erase (c .before .before) in
     (start-of e .pre .0, rw (e .erase .kept .0) (start-of e .pre .1), omega (arith, erase-cheap e, start-of e .pre .2))
 
 is-done-requires-2 : tie.Need-is-done-requires-2
@@ -119,7 +122,7 @@ same-length-2 c = search needs
 
 returns-2 : tie.Need-returns-2
 returns-2 c = λ cut.
-    let w = c .before .before .before .before in
+    let w = tested-fill (c .before) in
     let e = erased-at w in
     let a = start-of e .args in
     let failed =
@@ -133,7 +136,7 @@ encode-header-requires c κs = search needs
 
 program-requires : tie.Need-program-requires
 program-requires c κs =
-    let w = c .before .before .before .before .before .before in
+    let w = tested-fill (c .before .before .before) in
     let e = erased-at w in
     (omega arith, rw (w .write-records .kept .0 ∙ e .erase .kept .0) (start-of e .pre .1), omega (arith, fill-cheap w, start-of e .pre .2))
 
@@ -143,10 +146,10 @@ same-length-3 c = search needs
 returns-3 : tie.Need-returns-3
 returns-3 c = λ cut.
     let q = c .before .before in
-    let w = q .before .before .before .before .before .before .before in
+    let d = q .before .before .before .before in
+    let w = tested-fill d in
     let e = erased-at w in
     let a = start-of e .args in
-    let d = q .before .before .before .before in
     let done =
     ap (λ (o : Stepped). isDone (o .answer)) (filled-is w cut)
     ∙ sym (d .is-done2 .ensures)
