@@ -50,6 +50,10 @@ turn-is : (p : tie.After-program Inv-loop μ-loop) (now : Bool)
     }
 turn-is p now = step-is (turn (at-loop p) now) (p .program .result) (p .program .last .0) (p .program .ensures now)
 
+answer-is : (d : tie.After-is-done Inv-loop μ-loop) (now : Bool) →
+    let p = tried-at d in isDone (turn (at-loop p) now .answer) ≡ d .is-done .result
+answer-is d now = ap (λ (o : Stepped). isDone (o .answer)) (turn-is (tried-at d) now) ∙ sym (d .is-done .ensures)
+
 cheap : (p : tie.After-program Inv-loop μ-loop) → p .program .result .used .programmed ≤ at-loop p .loop .u .programmed + 16
 cheap p =
     let l = at-loop p in
@@ -65,8 +69,6 @@ same-length c = c .before .before .loop .inv .2
 returns : tie.Need-returns Inv-loop μ-loop
 returns c = λ cut.
     let l = c .before .before in
-    let a = start-of l .args in
-    let now = l .loop .inv .4 cut .0 in
     rw
     (sym (l .loop .inv .4 cut .1)
     ∙ tries-full _ _ _ _ _ _ (c .before .loop-test .taken) (c .if1 .taken))
@@ -94,9 +96,8 @@ returns-2 : tie.Need-returns-2 Inv-loop μ-loop
 returns-2 c = λ cut.
     let p = tried-at (c .before) in
     let l = at-loop p in
-    let a = start-of l .args in
     let now = l .loop .inv .4 cut .0 in
-    let done = ap (λ (o : Stepped). isDone (o .answer)) (turn-is p now) ∙ sym (c .before .is-done .ensures) ∙ c .if2 .taken in
+    let done = answer-is (c .before) now ∙ c .if2 .taken in
     let came =
     tries-done _ _ _ _ _ _ (p .before .before .before .loop-test .taken) (p .before .before .if1 .left) done
     ∙ ap (λ (o : Stepped). record { full = false; answer = Done; head = l .loop .h + 1; flash = o .flash }) (turn-is p now) in
@@ -116,7 +117,7 @@ loop-again c =
       omega (arith, cheap p, l .loop .inv .3, p .before .before .before .loop-test .taken),
       λ cut.
           let now = l .loop .inv .4 cut .0 in
-          let failed = ap (λ (o : Stepped). isDone (o .answer)) (turn-is p now) ∙ sym (c .before .is-done .ensures) ∙ c .if2 .left in (
+          let failed = answer-is (c .before) now ∙ c .if2 .left in (
             turn l now .flash .cut,
             ap (λ (o : Stepped). triesFrom (l .loop .left - 1) (a .sector) (l .loop .h + 1) (a .bytes) (o .answer) (o .flash)) (sym (turn-is p now))
                 ∙ sym
@@ -131,8 +132,6 @@ same-length-3 c = c .before .loop .inv .2
 returns-3 : tie.Need-returns-3 Inv-loop μ-loop
 returns-3 c = λ cut.
     let l = c .before in
-    let a = start-of l .args in
-    let now = l .loop .inv .4 cut .0 in
     rw
     (sym (l .loop .inv .4 cut .1)
     ∙ tries-end _ _ _ _ _ _ (omega (arith, c .loop-test .left)))

@@ -14,7 +14,7 @@ use Rattle.records.specs.declared.State.the-variants.{Active}
 use Rattle.codec.specs.declared.Raw.{Raw}
 use Rattle.flash.specs.Run.{Flash, Stepped}
 use Rattle.sectors.specs.Sectors.{writeSector}
-use Rattle.sectors.specs.Commits.{sectorAfter, commitFrom}
+use Rattle.sectors.specs.Commits.{commitFrom}
 use Rattle.sectors.specs.Shown.{flashWith}
 use Rattle.sectors.proofs.ShownLaws.{step-is}
 use Rattle.sectors.proofs.SectorsTurns.{after-within, commit-skip, commit-used-up, commit-done, commit-on, commit-end}
@@ -51,14 +51,14 @@ abbrev flash-of : tie.At-loop Inv-loop μ-loop → Bool → Flash
 flash-of l now = flashWith (l .loop .image) (l .loop .u) now
 
 -- from each step of a turn back to the one that the proof needs before it
-abbrev tested-at : tie.Else2 Inv-loop μ-loop → tie.After-sector-after Inv-loop μ-loop
-tested-at e = e .before .before
+abbrev begun-at : tie.Else2 Inv-loop μ-loop → tie.After-sector-after Inv-loop μ-loop
+begun-at e = e .before .before
 
-abbrev begun-at : tie.After-write-sector Inv-loop μ-loop → tie.After-sector-after Inv-loop μ-loop
-begun-at w = tested-at (w .before .before)
+abbrev tested-at : tie.After-write-sector Inv-loop μ-loop → tie.Else2 Inv-loop μ-loop
+tested-at w = w .before .before
 
 abbrev at-loop : tie.After-write-sector Inv-loop μ-loop → tie.At-loop Inv-loop μ-loop
-at-loop w = begun-at w .before .before
+at-loop w = begun-at (tested-at w) .before .before
 
 abbrev written-at : tie.After-is-done Inv-loop μ-loop → tie.After-write-sector Inv-loop μ-loop
 written-at d = d .before .before .before .before
@@ -74,6 +74,10 @@ turn-is : (w : tie.After-write-sector Inv-loop μ-loop) (now : Bool)
       flash = flashWith (w .write-sector .last .0) (w .write-sector .result .used) (turn (at-loop w) now .flash .cut);
     }
 turn-is w now = step-is (turn (at-loop w) now) (w .write-sector .result) (w .write-sector .last .0) (w .write-sector .ensures now)
+
+answer-is : (d : tie.After-is-done Inv-loop μ-loop) (now : Bool) →
+    let w = written-at d in isDone (turn (at-loop w) now .answer) ≡ d .is-done .result
+answer-is d now = ap (λ (o : Stepped). isDone (o .answer)) (turn-is (written-at d) now) ∙ sym (d .is-done .ensures)
 
 cheap : (w : tie.After-write-sector Inv-loop μ-loop) → let l = at-loop w in
     (w .write-sector .result .used .programmed ≤ l .loop .u .programmed + 16 * (limit + 1))
@@ -127,8 +131,6 @@ same-length c = c .before .before .before .before .loop .inv .3
 returns : tie.Need-returns Inv-loop μ-loop
 returns c = λ cut.
     let l = c .before .before .before .before in
-    let a = start-of l .args in
-    let now = l .loop .inv .6 cut .0 in
     rw
     (sym (l .loop .inv .6 cut .1)
     ∙ commit-used-up _ _ _ _ _ _ _ _ _ (c .before .before .before .loop-test .taken) (c .before .if1 .left) (c .if2 .taken))
@@ -136,7 +138,7 @@ returns c = λ cut.
 
 write-sector-requires : tie.Need-write-sector-requires Inv-loop μ-loop
 write-sector-requires c κs =
-    let l = tested-at (c .before) .before .before in
+    let l = begun-at (c .before) .before .before in
     let p = start-of l .pre .0 in (
       p .few,
       omega (arith, l .loop .inv .0, l .loop .inv .3, p .sized),
@@ -165,13 +167,12 @@ same-length-2 c = let w = written-at (c .before) in w .write-sector .kept .0 ∙
 returns-2 : tie.Need-returns-2 Inv-loop μ-loop
 returns-2 c = λ cut.
     let w = written-at (c .before) in
+    let e = tested-at w in
     let l = at-loop w in
-    let a = start-of l .args in
     let now = l .loop .inv .6 cut .0 in
-    let done = ap (λ (o : Stepped). isDone (o .answer)) (turn-is w now) ∙ sym (c .before .is-done .ensures) ∙ c .if3 .taken in
+    let done = answer-is (c .before) now ∙ c .if3 .taken in
     let came =
-    commit-done _ _ _ _ _ _ _ _ _ (begun-at w .before .loop-test .taken) (w .before .before .before .if1 .left)
-    (w .before .before .if2 .left) done
+    commit-done _ _ _ _ _ _ _ _ _ (begun-at e .before .loop-test .taken) (e .before .if1 .left) (e .if2 .left) done
     ∙ ap₂
     (λ (n : ℕ) (o : Stepped).
     record { answer = Done; state = Active (l .loop .s) (l .loop .next) (n + 1); next = l .loop .next + 1; flash = o .flash })
@@ -184,18 +185,19 @@ loop-less-2 c = omega arith
 loop-again-2 : tie.Need-loop-again-2 Inv-loop μ-loop
 loop-again-2 c =
     let w = written-at (c .before) in
+    let e = tested-at w in
+    let t = begun-at e in
     let l = at-loop w in
-    let a = start-of l .args in
-    let t = begun-at w in (
+    let a = start-of l .args in (
       rw (t .sector-after .ensures) (after-within (a .sectors) (l .loop .s) (l .loop .inv .0)),
       omega (arith, l .loop .inv .1),
-      omega (arith, l .loop .inv .2, w .before .before .if2 .left),
+      omega (arith, l .loop .inv .2, e .if2 .left),
       w .write-sector .kept .0 ∙ l .loop .inv .3,
       omega (arith, cheap w .0, l .loop .inv .4, t .before .loop-test .taken),
       omega (arith, cheap w .1, l .loop .inv .5, t .before .loop-test .taken),
       λ cut.
           let now = l .loop .inv .6 cut .0 in
-          let failed = ap (λ (o : Stepped). isDone (o .answer)) (turn-is w now) ∙ sym (c .before .is-done .ensures) ∙ c .if3 .left in (
+          let failed = answer-is (c .before) now ∙ c .if3 .left in (
             turn l now .flash .cut,
             ap₂
                 (λ (x : ℕ) (o : Stepped).
@@ -203,8 +205,7 @@ loop-again-2 c =
                 (o .flash))
                 (t .sector-after .ensures) (sym (turn-is w now))
                 ∙ sym
-                (commit-on _ _ _ _ _ _ _ _ _ (t .before .loop-test .taken) (w .before .before .before .if1 .left)
-                (w .before .before .if2 .left) failed)
+                (commit-on _ _ _ _ _ _ _ _ _ (t .before .loop-test .taken) (e .before .if1 .left) (e .if2 .left) failed)
                 ∙ l .loop .inv .6 cut .1,
           ),
     )
@@ -215,8 +216,6 @@ same-length-3 c = c .before .loop .inv .3
 returns-3 : tie.Need-returns-3 Inv-loop μ-loop
 returns-3 c = λ cut.
     let l = c .before in
-    let a = start-of l .args in
-    let now = l .loop .inv .6 cut .0 in
     rw
     (sym (l .loop .inv .6 cut .1)
     ∙ commit-end _ _ _ _ _ _ _ _ _ (omega (arith, c .loop-test .left)))

@@ -69,6 +69,10 @@ stepped p now =
     ∙ ap (slotOf (a .seq)) (sym (getD-take (a .count) (a .t4) (l .loop .i) nowhere (omega arith))) in
     rw bytes at (p .program .ensures now)
 
+answer-is : (d : tie.After-is-done Inv-loop μ-loop) (now : Bool) →
+    let p = written-at d in isDone (turn (at-loop p) now .answer) ≡ d .is-done .result
+answer-is d now = sym (ap (λ (r : Step). isDone (r .answer)) (stepped (written-at d) now .shown)) ∙ sym (d .is-done .ensures)
+
 cheap : (p : tie.After-program Inv-loop μ-loop) →
     let l = at-loop p in p .program .result .used .programmed ≤ start-of l .args .used .programmed + 16 * (l .loop .i + 1)
 cheap p =
@@ -112,9 +116,8 @@ returns c = λ cut.
     let p = written-at (c .before) in
     let l = at-loop p in
     let now = l .loop .inv .4 cut .0 in
-    let failed = sym (c .before .is-done .ensures) ∙ not-true (c .before .is-done .result) (c .if1 .taken) in
-    let answered = ap (λ (r : Step). isDone (r .answer)) (stepped p now .shown) in
-    let stop = records-stop _ _ (records-of l) (l .loop .i) (flash-of l now) (omega (arith, records-long l)) (sym answered ∙ failed) in
+    let failed = answer-is (c .before) now ∙ not-true (c .before .is-done .result) (c .if1 .taken) in
+    let stop = records-stop _ _ (records-of l) (l .loop .i) (flash-of l now) (omega (arith, records-long l)) failed in
     rw (sym (l .loop .inv .4 cut .1) ∙ stop) (stepped p now)
 
 add-i : tie.Need-add-i Inv-loop μ-loop
@@ -125,7 +128,8 @@ loop-less c = omega arith
 
 loop-again : tie.Need-loop-again Inv-loop μ-loop
 loop-again c =
-    let p = written-at (c .before .before) in
+    let d = c .before .before in
+    let p = written-at d in
     let l = at-loop p in (
       l .loop .inv .0,
       omega arith,
@@ -133,8 +137,7 @@ loop-again c =
       cheap p,
       λ cut.
           let now = l .loop .inv .4 cut .0 in
-          let done = sym (c .before .before .is-done .ensures) ∙ not-false (c .before .before .is-done .result) (c .before .if1 .left) in
-          let answered = ap (λ (r : Step). isDone (r .answer)) (stepped p now .shown) in (
+          let done = answer-is d now ∙ not-false (d .is-done .result) (c .before .if1 .left) in (
             turn l now .flash .cut,
             ap
                 (λ (o : Stepped).
@@ -142,7 +145,7 @@ loop-again c =
                 (drop (l .loop .i + 1) (records-of l)) (o .flash))
                 (sym (step-is (turn l now) (p .program .result) (p .program .last .0) (stepped p now)))
                 ∙ sym
-                (records-on _ _ (records-of l) (l .loop .i) (flash-of l now) (omega (arith, records-long l)) (sym answered ∙ done))
+                (records-on _ _ (records-of l) (l .loop .i) (flash-of l now) (omega (arith, records-long l)) done)
                 ∙ l .loop .inv .4 cut .1,
           ),
     )

@@ -61,12 +61,17 @@ filled-is : (w : tie.After-write-records) (cut : Bool)
     }
 filled-is w cut = step-is (filling w cut) (w .write-records .result) (w .write-records .last .0) (filled-shown w cut)
 
+-- what each test asks of the step before it
+erase-answer : (d : tie.After-is-done) (cut : Bool) → isDone (erasing (tested-erase d) cut .answer) ≡ d .is-done .result
+erase-answer d cut = ap (λ (o : Stepped). isDone (o .answer)) (erased-is (tested-erase d) cut) ∙ sym (d .is-done .ensures)
+
+fill-answer : (d : tie.After-is-done2) (cut : Bool) → isDone (filling (tested-fill d) cut .answer) ≡ d .is-done2 .result
+fill-answer d cut = ap (λ (o : Stepped). isDone (o .answer)) (filled-is (tested-fill d) cut) ∙ sym (d .is-done2 .ensures)
+
 erase-done : (w : tie.After-write-records) (cut : Bool) → isDone (erasing (erased-at w) cut .answer) ≡ true
 erase-done w cut =
     let d = w .before .before .before in
-    ap (λ (o : Stepped). isDone (o .answer)) (erased-is (erased-at w) cut)
-    ∙ sym (d .is-done .ensures)
-    ∙ not-false (d .is-done .result) (w .before .before .if1 .left)
+    erase-answer d cut ∙ not-false (d .is-done .result) (w .before .before .if1 .left)
 
 -- what was used stays within bounds
 erase-cheap : (e : tie.After-erase) → e .erase .result .used .programmed ≤ start-of e .args .used .programmed
@@ -103,10 +108,7 @@ returns : tie.Need-returns
 returns c = λ cut.
     let e = tested-erase (c .before) in
     let a = start-of e .args in
-    let failed =
-    ap (λ (o : Stepped). isDone (o .answer)) (erased-is e cut)
-    ∙ sym (c .before .is-done .ensures)
-    ∙ not-true (c .before .is-done .result) (c .if1 .taken) in
+    let failed = erase-answer (c .before) cut ∙ not-true (c .before .is-done .result) (c .if1 .taken) in
     rw (sector-unerased (a .sector) (a .seq) (records-of e) (first-flash e cut) failed) (e .erase .ensures cut)
 
 write-records-requires : tie.Need-write-records-requires
@@ -125,10 +127,7 @@ returns-2 c = λ cut.
     let w = tested-fill (c .before) in
     let e = erased-at w in
     let a = start-of e .args in
-    let failed =
-    ap (λ (o : Stepped). isDone (o .answer)) (filled-is w cut)
-    ∙ sym (c .before .is-done2 .ensures)
-    ∙ not-true (c .before .is-done2 .result) (c .if2 .taken) in
+    let failed = fill-answer (c .before) cut ∙ not-true (c .before .is-done2 .result) (c .if2 .taken) in
     rw (sector-unfilled (a .sector) (a .seq) (records-of e) (first-flash e cut) (erase-done w cut) failed) (filled-shown w cut)
 
 encode-header-requires : tie.Need-encode-header-requires
@@ -150,10 +149,7 @@ returns-3 c = λ cut.
     let w = tested-fill d in
     let e = erased-at w in
     let a = start-of e .args in
-    let done =
-    ap (λ (o : Stepped). isDone (o .answer)) (filled-is w cut)
-    ∙ sym (d .is-done2 .ensures)
-    ∙ not-false (d .is-done2 .result) (q .before .before .before .if2 .left) in
+    let done = fill-answer d cut ∙ not-false (d .is-done2 .result) (q .before .before .before .if2 .left) in
     let shown = q .program .ensures (filling w cut .flash .cut) in
     rw (
       sector-headed (a .sector) (a .seq) (records-of e) (first-flash e cut) (erase-done w cut) done,
