@@ -31,8 +31,9 @@ loop-less c = omega arith
 
 loop-again : tie.Need-loop-again Inv-loop μ-loop
 loop-again c =
-    let loop = c .before .before .before .loop in
-    let bytes = c .before .before .before .before .before .args .bytes .now in
+    let l = c .before .before .before in
+    let loop = l .loop in
+    let bytes = l .before .before .args .bytes .now in
     (omega arith, rw (c .fed .ensures) (sym (feed-step (loop .s) bytes (loop .i) (omega arith)) ∙ loop .inv .1))
 
 returns : tie.Need-returns Inv-loop μ-loop
