@@ -24,9 +24,8 @@ number4-requires c κs = search needs
 
 returns : tie.Need-returns
 returns c =
-    let s0 = c .before .before .before .before .before .before in
-    let slot = s0 .args .slot .now in
-    c .number4 .ensures ∙ ap leNumber (read-part 4 12 slot (omega (arith, s0 .pre)))
+    let start = c .before .before .before .before .before .before in
+    c .number4 .ensures ∙ ap leNumber (read-part 4 12 (start .args .slot .now) (omega (arith, start .pre)))
 
 pub carried-spec : {M : Type 1} → statement M
 carried-spec =

@@ -19,14 +19,31 @@ use Rattle.codec.proofs.headers.decode_header.Tie as tie
 abbrev slot : (c : tie.Start) → List ℕ
 slot c = c .args .slot .now
 
+-- from past each test back to past the one before it
+abbrev start-of : tie.Else1 → tie.Start
+start-of sized = sized .before .before
+
+abbrev sized-at : tie.Else2 → tie.Else1
+sized-at marked = marked .before .before
+
+abbrev magic-at : tie.Else3 → tie.Else2
+magic-at version = version .before .before
+
+abbrev version-at : tie.After-check12 → tie.Else3
+version-at c = c .before .before
+
 -- past the second test the magic is there
-magic : (c : tie.Else2) → magicAt (slot (c .before .before .before .before)) ≡ true
-magic c = sym (c .before .has-magic .ensures) ∙ not-false (c .before .has-magic .result) (c .if2 .left)
+magic : (e : tie.Else2) → magicAt (slot (start-of (sized-at e))) ≡ true
+magic e = sym (e .before .has-magic .ensures) ∙ not-false (e .before .has-magic .result) (e .if2 .left)
+
+-- the bytes that the checksum covers
+abbrev covered : tie.After-check12 → List ℕ
+covered c = take 12 (slot (start-of (sized-at (magic-at (version-at c)))))
 
 -- what is compared last: the checksum of bytes 0..11, worked from the start
-checked : (c : tie.After-check12) → c .check12 .result ≡ crc32Of (take 12 (slot (c .before .before .before .before .before .before .before .before)))
+checked : (c : tie.After-check12) → c .check12 .result ≡ crc32Of (covered c)
 checked c =
-    let bytes = take 12 (slot (c .before .before .before .before .before .before .before .before)) in
+    let bytes = covered c in
     c .check12 .ensures ∙ ap (λ (s : ℕ). crcFrom s bytes) (c .before .start .ensures) ∙ from-start bytes
 
 returns : tie.Need-returns
@@ -39,16 +56,17 @@ has-magic-requires c κs = search needs
 returns-2 : tie.Need-returns-2
 unfolding headerOf
 returns-2 c =
-    let none : magicAt (slot (c .before .before .before .before)) ≡ false =
+    let sized = c .before .before in
+    let none : magicAt (slot (start-of sized)) ≡ false =
     sym (c .before .has-magic .ensures) ∙ not-true (c .before .has-magic .result) (c .if2 .taken) in
-    rw (eq-eqb _ _ (c .before .before .if1 .left), none)
+    rw (eq-eqb _ _ (sized .if1 .left), none)
 
 shared-slice-read-if3 : tie.Need-shared-slice-read-if3
 shared-slice-read-if3 c = search needs
 
 returns-3 : tie.Need-returns-3
 unfolding headerOf
-returns-3 c = rw (eq-eqb _ _ (c .before .before .before .before .if1 .left), magic (c .before .before), ne-eqb _ _ (c .if3 .taken))
+returns-3 c = let marked = c .before .before in rw (eq-eqb _ _ (sized-at marked .if1 .left), magic marked, ne-eqb _ _ (c .if3 .taken))
 
 start-requires : tie.Need-start-requires
 start-requires c κs = search needs
@@ -62,12 +80,14 @@ carried-requires c κs = search needs
 returns-4 : tie.Need-returns-4
 unfolding headerOf
 returns-4 c =
-    let e3 = c .before .before .before .before in
+    let sum = c .before .before in
+    let version = version-at sum in
+    let marked = magic-at version in
     rw (
-      eq-eqb _ _ (e3 .before .before .before .before .if1 .left),
-      magic (e3 .before .before),
-      eq-eqb _ _ (e3 .if3 .left),
-      ne-eqb _ _ (λ e. c .if4 .taken (checked (c .before .before) ∙ e ∙ sym (c .before .carried .ensures))),
+      eq-eqb _ _ (sized-at marked .if1 .left),
+      magic marked,
+      eq-eqb _ _ (version .if3 .left),
+      ne-eqb _ _ (λ e. c .if4 .taken (checked sum ∙ e ∙ sym (c .before .carried .ensures))),
     )
 
 shared-slice-read-number4 : tie.Need-shared-slice-read-number4
@@ -88,17 +108,18 @@ number4-requires c κs = search needs
 returns-5 : tie.Need-returns-5
 unfolding headerOf
 returns-5 c =
-    let e4 = c .before .before .before .before .before in
-    let e3 = e4 .before .before .before .before in
-    let e1 = e3 .before .before .before .before in
-    let s = slot (e1 .before .before) in
+    let sound = c .before .before .before .before .before in
+    let sum = sound .before .before in
+    let version = version-at sum in
+    let marked = magic-at version in
+    let sized = sized-at marked in
     rw (
-      eq-eqb _ _ (e1 .if1 .left),
-      magic (e3 .before .before),
-      eq-eqb _ _ (e3 .if3 .left),
-      eq-eqb _ _ (sym (checked (e4 .before .before)) ∙ e4 .if4 .left ∙ e4 .before .carried .ensures),
+      eq-eqb _ _ (sized .if1 .left),
+      magic marked,
+      eq-eqb _ _ (version .if3 .left),
+      eq-eqb _ _ (sym (checked sum) ∙ sound .if4 .left ∙ sound .before .carried .ensures),
     )
-    (ap Valid (c .number4 .ensures ∙ ap leNumber (read-part 4 4 s (omega (arith, e1 .if1 .left)))))
+    (ap Valid (c .number4 .ensures ∙ ap leNumber (read-part 4 4 (slot (start-of sized)) (omega (arith, sized .if1 .left)))))
 
 pub decode-header-spec : {M : Type 1} → statement M
 decode-header-spec =

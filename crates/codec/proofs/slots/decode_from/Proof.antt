@@ -6,6 +6,10 @@ use borrow.Author.Needs.{needs}
 use Rattle.codec.proofs.slots.decode_from.Statement.{statement}
 use Rattle.codec.proofs.slots.decode_from.Tie as tie
 
+-- from past the test of the tag back to past the test of the size
+abbrev sized-at : tie.Else2 → tie.Else1
+sized-at e = e .before .before
+
 nothing-requires : tie.Need-nothing-requires
 nothing-requires c κs = search needs
 
@@ -35,12 +39,14 @@ nothing-requires-3 c κs = search needs
 returns-3 : tie.Need-returns-3
 unfolding decodedWith
 returns-3 c =
+    let carried = c .before .before in
+    let sum = carried .before in
+    let tagged = sum .before in
     rw (
       c .nothing3 .ensures,
-      eq-eqb _ _ (c .before .before .before .before .before .before .if1 .left),
-      ne-eqb _ _ (c .before .before .before .before .if2 .left),
-      ne-eqb _ _
-          (λ e. c .before .if3 .taken (c .before .before .before .check12 .ensures ∙ e ∙ sym (c .before .before .carried .ensures))),
+      eq-eqb _ _ (sized-at tagged .if1 .left),
+      ne-eqb _ _ (tagged .if2 .left),
+      ne-eqb _ _ (λ e. c .before .if3 .taken (sum .check12 .ensures ∙ e ∙ sym (carried .carried .ensures))),
     )
 
 from-slot-requires : tie.Need-from-slot-requires
@@ -49,11 +55,14 @@ from-slot-requires c κs = search needs
 returns-4 : tie.Need-returns-4
 unfolding decodedWith
 returns-4 c =
+    let carried = c .before .before in
+    let sum = carried .before in
+    let tagged = sum .before in
     rw (
       c .from-slot .ensures,
-      eq-eqb _ _ (c .before .before .before .before .before .before .if1 .left),
-      ne-eqb _ _ (c .before .before .before .before .if2 .left),
-      eq-eqb _ _ (sym (c .before .before .before .check12 .ensures) ∙ c .before .if3 .left ∙ c .before .before .carried .ensures),
+      eq-eqb _ _ (sized-at tagged .if1 .left),
+      ne-eqb _ _ (tagged .if2 .left),
+      eq-eqb _ _ (sym (sum .check12 .ensures) ∙ c .before .if3 .left ∙ carried .carried .ensures),
     )
 
 pub decode-from-spec : {M : Type 1} → statement M

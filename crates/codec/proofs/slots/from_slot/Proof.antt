@@ -47,9 +47,9 @@ shared-slice-read-t25 c = search needs
 
 returns : tie.Need-returns
 returns c =
-    let s0 = c .before .before .before .before .before .before .before .before .before .before .before .before in
-    let s = s0 .args .s .now in
-    ap (λ (l : List ℕ). record { tag = getD s 0 0; id = getD s 1 0; body = l }) (read-part 10 2 s (omega (arith, s0 .pre)))
+    let start = c .before .before .before .before .before .before .before .before .before .before .before .before in
+    let s = start .args .s .now in
+    ap (λ (l : List ℕ). record { tag = getD s 0 0; id = getD s 1 0; body = l }) (read-part 10 2 s (omega (arith, start .pre)))
 
 pub from-slot-spec : {M : Type 1} → statement M
 from-slot-spec =
