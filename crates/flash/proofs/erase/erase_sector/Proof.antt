@@ -17,8 +17,11 @@ use Rattle.flash.proofs.erase.erase_sector.Tie as tie
 abbrev start : tie.After-blank → tie.Start
 start c = c .before .before .before
 
+abbrev blanked-at : tie.After-slice-known2 → tie.After-blank
+blanked-at k = k .before .before
+
 abbrev lent : tie.After-is-erased → tie.After-blank
-lent c = c .before .before .before .before .before .before
+lent c = blanked-at (c .before .before .before .before)
 
 -- the sector as it is left
 abbrev left : tie.After-blank → List ℕ
@@ -69,7 +72,7 @@ same-length c = search needs
 
 returns : tie.Need-returns
 returns c =
-    let g = c .before .before .before in
+    let g = blanked-at (c .before) in
     (rw (lt-ltb (start g .args .n) 4096 (omega arith)), whole g)
 
 sub-is-erased : tie.Need-sub-is-erased
