@@ -55,13 +55,15 @@ number2-requires-2 c κs = search needs
 
 returns : tie.Need-returns
 returns c =
-    let s0 = c .before .before .before .before .before .before in
-    let r = s0 .args .raw in
-    let size = ten r (s0 .good .0) in
-    let gen = c .before .before .number2 .ensures ∙ field (r .body) size 0 2 (omega arith) in
+    let gen-at = c .before .before in
+    let low-at = gen-at .before .before in
+    let start = low-at .before .before in
+    let r = start .args .raw in
+    let size = ten r (start .good .0) in
+    let gen = gen-at .number2 .ensures ∙ field (r .body) size 0 2 (omega arith) in
     let seq =
     c .before .joined .ensures
-    ∙ ap₂ (λ (x y : ℕ). x + 4294967296 * y) (c .before .before .before .before .number4 .ensures) (c .before .before .before .number42 .ensures)
+    ∙ ap₂ (λ (x y : ℕ). x + 4294967296 * y) (low-at .number4 .ensures) (gen-at .before .number42 .ensures)
     ∙ field6 (r .body) size in
     let slot = c .number22 .ensures ∙ field (r .body) size 8 2 (omega arith) in
     λ i. record { «format_gen» = gen i; «head_seq» = seq i; «head_slot» = slot i }
