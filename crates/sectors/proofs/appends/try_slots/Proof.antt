@@ -120,8 +120,7 @@ loop-again c =
           let failed = answer-is (c .before) now ∙ c .if2 .left in (
             turn l now .flash .cut,
             ap (λ (o : Stepped). triesFrom (l .loop .left - 1) (a .sector) (l .loop .h + 1) (a .bytes) (o .answer) (o .flash)) (sym (turn-is p now))
-                ∙ sym
-                (tries-on _ _ _ _ _ _ (p .before .before .before .loop-test .taken) (p .before .before .if1 .left) failed)
+                ∙ sym (tries-on _ _ _ _ _ _ (p .before .before .before .loop-test .taken) (p .before .before .if1 .left) failed)
                 ∙ l .loop .inv .4 cut .1,
           ),
     )

@@ -119,8 +119,7 @@ loop-again c =
                 commitFrom (l .loop .left - 1) (a .sectors) (a .avoid) x (records-of l) (l .loop .answer) (a .state) (l .loop .next)
                 (flash-of l now))
                 (c .before .sector-after .ensures)
-                ∙ sym
-                (commit-skip _ _ _ _ _ _ _ _ _ (c .before .before .loop-test .taken) (c .if1 .taken))
+                ∙ sym (commit-skip _ _ _ _ _ _ _ _ _ (c .before .before .loop-test .taken) (c .if1 .taken))
                 ∙ l .loop .inv .6 cut .1,
           ),
     )
@@ -204,8 +203,7 @@ loop-again-2 c =
                 commitFrom (l .loop .left - 1) (a .sectors) (a .avoid) x (records-of l) (o .answer) (a .state) (l .loop .next + 1)
                 (o .flash))
                 (t .sector-after .ensures) (sym (turn-is w now))
-                ∙ sym
-                (commit-on _ _ _ _ _ _ _ _ _ (t .before .loop-test .taken) (e .before .if1 .left) (e .if2 .left) failed)
+                ∙ sym (commit-on _ _ _ _ _ _ _ _ _ (t .before .loop-test .taken) (e .before .if1 .left) (e .if2 .left) failed)
                 ∙ l .loop .inv .6 cut .1,
           ),
     )

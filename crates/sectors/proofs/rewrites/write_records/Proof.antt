@@ -53,7 +53,7 @@ records-long l =
 abbrev flash-of : tie.At-loop Inv-loop μ-loop → Bool → Flash
 flash-of l now = flashWith (l .loop .image) (l .loop .u) now
 
--- the step of a turn, from the flash as it stands; in the laws of a turn below, each `_` is what the loop holds, as its invariant has it
+-- the step of a turn, from the flash as it stands; in its laws below, `_ _` are the sector and its seq
 abbrev turn : tie.At-loop Inv-loop μ-loop → Bool → Stepped
 turn l now = one (start-of l .args .sector) (start-of l .args .seq) (records-of l) (l .loop .i) (flash-of l now)
 
@@ -144,8 +144,7 @@ loop-again c =
                 writeRecords (start-of l .args .sector) (start-of l .args .seq) (l .loop .i + 1 + 1)
                 (drop (l .loop .i + 1) (records-of l)) (o .flash))
                 (sym (step-is (turn l now) (p .program .result) (p .program .last .0) (stepped p now)))
-                ∙ sym
-                (records-on _ _ (records-of l) (l .loop .i) (flash-of l now) (omega (arith, records-long l)) done)
+                ∙ sym (records-on _ _ (records-of l) (l .loop .i) (flash-of l now) (omega (arith, records-long l)) done)
                 ∙ l .loop .inv .4 cut .1,
           ),
     )
