@@ -152,11 +152,16 @@ imageTy ℓ = sliceTy (tyRef ℓ mut (tyInt w8))
 abbrev pub planRef : Ty
 planRef = tyRef (named 1) mut (pointee (PlanR .written))
 
+abbrev pub bytesRef : Ty
+bytesRef = tyRef erased mut (tyInt w8)
+
 -- the locals after the parameters: the answer, the image's pointer, the image lent on, and a plan
 abbrev pub work : Answering → List Local
-work D =
-    local (D .single .ty) valueLocal ∷ local (tyRef erased mut (tyInt w8)) valueLocal ∷ local (imageTy erased) valueLocal
-    ∷ local P′.mir valueLocal ∷ []
+work D = local (D .single .ty) valueLocal ∷ local bytesRef valueLocal ∷ local (imageTy erased) valueLocal ∷ local P′.mir valueLocal ∷ []
+
+-- and where they lie
+abbrev pub workAt : Answering → ℕ → ℕ → ℕ → ℕ → List (Ty × ℕ)
+workAt D l₆ l₇ l₈ l₉ = (D .single .ty, l₆) ∷ (bytesRef, l₇) ∷ (imageTy erased, l₈) ∷ (P′.mir, l₉) ∷ []
 
 -- n parameters, the third of them the plan's place
 abbrev pub body : Answering → Name → ℕ → List Opd → MBody
@@ -186,6 +191,9 @@ pub record Loans : Type 0 where
 
 abbrev pub sliceOf : Loans → Val
 sliceOf L = sliceVal (L .image .ptr) (length (L .image .now))
+
+abbrev pub planPlace : Loans → Val
+planPlace L = vptr (L .plan .ptr .0) (L .plan .ptr .1)
 
 abbrev pub planVals : Plan → List Val
 planVals = LL.vals P.the-type P′.the-laws
@@ -273,6 +281,13 @@ module _ (D : Answering) {M : Type 1} (𝓤 : URA M) (H : Heap 𝓤) (A : Atoms 
     abbrev pub to-called : Called D X ss ks Ψ 𝓤 H A .Ghost
     to-called = (((κ, tt), (q, tt), tt, (image, (x, (h, t))), (slice ∷ [], (S .val x ∷ [], (planVals h, us)))), tt)
 
+    -- the callee's end, and its arguments
+    abbrev the-call : Ended
+    the-call = called D X ss ks Ψ
+
+    abbrev call-args : Denots (typesAt (the-call .signature .params) (κ, tt))
+    call-args = (image, (x, (h, t)))
+
     -- what the plain parameters own
     abbrev pub plains : Fml
     plains = fsep (X .own x (S .val x ∷ [])) (owns (typesAt ss (κ, tt)) t us)
@@ -280,6 +295,26 @@ module _ (D : Answering) {M : Type 1} (𝓤 : URA M) (H : Heap 𝓤) (A : Atoms 
     module _ (C : Calls 𝓤 H) (Λ : Loops 𝓤 H) (fm : FmC 𝓤 H (W .laws) C) (callee : Name)
         (known : Triple 𝓤 (C callee) (Called D X ss ks Ψ 𝓤 H A)) (known-read : Triple 𝓤 (C (D .reader)) (Read D 𝓤 H A))
         (l₀ l₁ l₂ l₃ l₆ l₇ l₈ l₉ : ℕ) (n : ℕ) (F : Env 𝓤 H) where
+      -- the locals after the parameters: their rooms, and their ends; and the ends of the others
+      abbrev pub Rooms : List (Item 𝓤) → List (Item 𝓤)
+      Rooms Γ =
+          ‵ (froom P′.mir l₉ 0) ∷ ‵ (froom (imageTy erased) l₈ 0) ∷ ‵ (froom bytesRef l₇ 0) ∷ ‵ (froom (D .single .ty) l₆ 0) ∷ Γ
+
+      abbrev pub WorkDies : List (Item 𝓤) → List (Item 𝓤)
+      WorkDies Γ =
+          ‵ (fdies P′.mir l₉) ∷ ‵ (fdies (imageTy erased) l₈) ∷ ‵ (fdies bytesRef l₇) ∷ ‵ (fdies (D .single .ty) l₆) ∷ Γ
+
+      abbrev pub Dies : List (Item 𝓤) → List (Item 𝓤)
+      Dies Γ =
+          WorkDies
+          (‵ (fdies planRef l₃) ∷ ‵ (fdies (S .ty) l₂) ∷ ‵ (fdies (imageTy (named 0)) l₁) ∷ ‵ (fdies (D .single .ty) l₀) ∷ Γ)
+
+      -- the parameters up to the plan, and the result's room
+      abbrev pub Params : List (Item 𝓤) → List (Item 𝓤)
+      Params Γ =
+          ‵ (fat fullShare planRef l₃ 0 (vptr b₂ o₂)) ∷ ‵ (fat fullShare (S .ty) l₂ 0 (S .val x))
+          ∷ ‵ (fat fullShare (imageTy (named 0)) l₁ 0 slice) ∷ ‵ (froom (D .single .ty) l₀ 0) ∷ Γ
+
       abbrev pub E : Env 𝓤 H
       E = (D .single .ty, l₀) ∷ (imageTy (named 0), l₁) ∷ (S .ty, l₂) ∷ (planRef, l₃) ∷ F
 
@@ -290,39 +325,26 @@ module _ (D : Answering) {M : Type 1} (𝓤 : URA M) (H : Heap 𝓤) (A : Atoms 
             raw (Called D X ss ks Ψ 𝓤 H A .pre to-called) ∷ ‵ (cellAt fullShare (PlanR .mir) (planVals h) b₂ o₂)
             ∷ ‵ (fobor κ′ q′ (Body (mem PlanR) b₂ o₂ γ₂)) ∷ ‵ (fobs γ₂ (PlanR .coded .code h)) ∷ ‵ (fauth γ₂ (PlanR .coded .code h))
             ∷ ‵ (fat fullShare P′.mir l₉ 0 (LL.val P.the-type P′.the-laws h)) ∷ ‵ (fat fullShare (imageTy erased) l₈ 0 slice)
-            ∷ ‵ (fat fullShare (tyRef erased mut (tyInt w8)) l₇ 0 (vptr (image .ptr .0) (image .ptr .1))) ∷ ‵ (froom (D .single .ty) l₆ 0)
-            ∷ ‵ (fat fullShare planRef l₃ 0 (vptr b₂ o₂)) ∷ ‵ (fat fullShare (S .ty) l₂ 0 (S .val x))
-            ∷ ‵ (fat fullShare (imageTy (named 0)) l₁ 0 slice) ∷ ‵ (froom (D .single .ty) l₀ 0)
-            ∷ ‵ (fdies P′.mir l₉) ∷ ‵ (fdies (imageTy erased) l₈) ∷ ‵ (fdies (tyRef erased mut (tyInt w8)) l₇)
-            ∷ ‵ (fdies (D .single .ty) l₆) ∷ ‵ (fdies planRef l₃) ∷ ‵ (fdies (S .ty) l₂) ∷ ‵ (fdies (imageTy (named 0)) l₁)
-            ∷ ‵ (fdies (D .single .ty) l₀) ∷ Δ
+            ∷ ‵ (fat fullShare bytesRef l₇ 0 (vptr (image .ptr .0) (image .ptr .1))) ∷ ‵ (froom (D .single .ty) l₆ 0) ∷ Params (Dies Δ)
 
-        pub runs-down : (spotOf 𝓤 H E (n + 1) ≡ (D .single .ty, l₆, 0)) → (spotOf 𝓤 H E (n + 2) ≡ (tyRef erased mut (tyInt w8), l₇, 0))
+        pub runs-down : (spotOf 𝓤 H E (n + 1) ≡ (D .single .ty, l₆, 0)) → (spotOf 𝓤 H E (n + 2) ≡ (bytesRef, l₇, 0))
             → (spotOf 𝓤 H E (n + 3) ≡ (imageTy erased, l₈, 0)) → (spotOf 𝓤 H E (n + 4) ≡ (P′.mir, l₉, 0))
             → Room u8 (length ys) → {after : List Opd} → Opds (Go {0}) W AtCall E after (flat (typesAt ss (κ, tt)) us)
             → ((r : D .row .Denot) (v : Val) (zs : List ℕ) (p : Plan) → Ψ (κ, tt) ys x h t r zs → length zs ≡ length ys → p ≡ D .plan-of r
             → Seq (Go {0}) W
-            (‵ (froom P′.mir l₉ 0) ∷ ‵ (froom (imageTy erased) l₈ 0) ∷ ‵ (froom (tyRef erased mut (tyInt w8)) l₇ 0)
-            ∷ ‵ (froom (D .single .ty) l₆ 0) ∷ raw (⋆ 𝓤 H A (Ends r v zs p))
-            ∷ ‵ (fdies P′.mir l₉) ∷ ‵ (fdies (imageTy erased) l₈) ∷ ‵ (fdies (tyRef erased mut (tyInt w8)) l₇)
-            ∷ ‵ (fdies (D .single .ty) l₆) ∷ Δ) (frees F (prop (Kf v))))
+            (Rooms (raw (⋆ 𝓤 H A (Ends r v zs p)) ∷ WorkDies Δ)) (frees F (prop (Kf v))))
             → Seq (Go {0}) W
-            (‵ (froom P′.mir l₉ 0) ∷ ‵ (froom (imageTy erased) l₈ 0) ∷ ‵ (froom (tyRef erased mut (tyInt w8)) l₇ 0)
-            ∷ ‵ (froom (D .single .ty) l₆ 0) ∷ ‵ (fat fullShare planRef l₃ 0 (vptr b₂ o₂)) ∷ ‵ (fat fullShare (S .ty) l₂ 0 (S .val x))
-            ∷ ‵ (fat fullShare (imageTy (named 0)) l₁ 0 slice) ∷ ‵ (froom (D .single .ty) l₀ 0) ∷ (‵ (flft κ q) ⊛ ‵ (flft κ′ q′) ⊛ ‵ ftrue)
+            (Rooms (Params ((‵ (flft κ q) ⊛ ‵ (flft κ′ q′) ⊛ ‵ ftrue)
             ∷ ‵ (MutSlice (named 0) κ u8 .own image (slice ∷ [])) ∷ ‵ (MutRef (named 1) κ′ PlanR .own (L .plan) (vptr b₂ o₂ ∷ []))
-            ∷ ‵ plains
-            ∷ ‵ (fdies P′.mir l₉) ∷ ‵ (fdies (imageTy erased) l₈) ∷ ‵ (fdies (tyRef erased mut (tyInt w8)) l₇)
-            ∷ ‵ (fdies (D .single .ty) l₆) ∷ ‵ (fdies planRef l₃) ∷ ‵ (fdies (S .ty) l₂) ∷ ‵ (fdies (imageTy (named 0)) l₁)
-            ∷ ‵ (fdies (D .single .ty) l₀) ∷ Δ)
+            ∷ ‵ plains ∷ Dies Δ)))
             (runs C Λ E (body D callee n after) (atRet E Kf))
         runs-down e₆ e₇ e₈ e₉ room os back =
             -- the image is lent on
             assigns ! (addr ! (from ! (fld ! refl (hop ! (look-in ! 6 (sub ! 0 refl (whole !))) (stop !)))))
-            (at ! (tyRef erased mut (tyInt w8), l₇) e₇ (stop !)) (init ! 2 refl (tt, tt)) $
+            (at ! (bytesRef, l₇) e₇ (stop !)) (init ! 2 refl (tt, tt)) $
             assigns !
             (agg !
-            (and-then ! (load ! (at ! (tyRef erased mut (tyInt w8), l₇) e₇ (stop !)) (look ! 2 refl))
+            (and-then ! (load ! (at ! (bytesRef, l₇) e₇ (stop !)) (look ! 2 refl))
             (and-then ! (load ! (from ! (fld ! refl (stop !))) (look-in ! 6 (sub ! 1 refl (whole !)))) (no-more !))))
             (at ! (imageTy erased, l₈) e₈ (stop !)) (init ! 1 refl (tt, (tt, (record { fits = room .0 }, tt)))) $
             -- the plan's place is opened, and the plan copied out
@@ -347,14 +369,14 @@ module _ (D : Answering) {M : Type 1} (𝓤 : URA M) (H : Heap 𝓤) (A : Atoms 
             (some
             (λ (r : D .row .Denot).
             ((‵ (flft κ q) ⊛ ‵ ftrue) ⊛ ‵ (D .row .own r (v₁ ∷ []))) ⊛ raw
-            (ensured 𝓤 H A (called D X ss ks Ψ) (calledClauses D X ss ks Ψ 𝓤) (κ, tt) (image, (x, (h, t))) tt r))))
+            (ensured 𝓤 H A the-call (calledClauses D X ss ks Ψ 𝓤) (κ, tt) call-args tt r))))
             (id⊢ 𝓤 _) $
             await ! tt $ pick ! (λ r.
             split ! $ move ! (1 ∷ []) $
             use1 W
             (some
-            (λ (zs : Lasts (called D X ss ks Ψ) (κ, tt) (image, (x, (h, t)))).
-            ‵ (lasts (called D X ss ks Ψ) (κ, tt) (image, (x, (h, t))) zs) ⊛ raw (fact 𝓤 (Ψ (κ, tt) ys x h t r (zs .0)))))
+            (λ (zs : Lasts the-call (κ, tt) call-args).
+            ‵ (lasts the-call (κ, tt) call-args zs) ⊛ raw (fact 𝓤 (Ψ (κ, tt) ys x h t r (zs .0)))))
             (id⊢ 𝓤 _) $
             pick ! (λ zs.
             split ! $ move ! (1 ∷ []) $
@@ -394,10 +416,8 @@ module _ (D : Answering) {M : Type 1} (𝓤 : URA M) (H : Heap 𝓤) (A : Atoms 
         -- the locals after the parameters are freed last
         pub freed : (r : D .row .Denot) (v : Val) (zs : List ℕ) (p : Plan) → ent 𝓤 (⋆ 𝓤 H A (Ends r v zs p)) (Kf v)
             → Seq (Go {0}) W
-            (‵ (froom P′.mir l₉ 0) ∷ ‵ (froom (imageTy erased) l₈ 0) ∷ ‵ (froom (tyRef erased mut (tyInt w8)) l₇ 0)
-            ∷ ‵ (froom (D .single .ty) l₆ 0) ∷ raw (⋆ 𝓤 H A (Ends r v zs p)) ∷ ‵ (fdies P′.mir l₉) ∷ ‵ (fdies (imageTy erased) l₈)
-            ∷ ‵ (fdies (tyRef erased mut (tyInt w8)) l₇) ∷ ‵ (fdies (D .single .ty) l₆) ∷ [])
-            (frees ((D .single .ty, l₆) ∷ (tyRef erased mut (tyInt w8), l₇) ∷ (imageTy erased, l₈) ∷ (P′.mir, l₉) ∷ []) (prop (Kf v)))
+            (Rooms (raw (⋆ 𝓤 H A (Ends r v zs p)) ∷ WorkDies []))
+            (frees (workAt D l₆ l₇ l₈ l₉) (prop (Kf v)))
         freed r v zs p over =
             move ! (3 ∷ 8 ∷ []) $ free1 ! $ move ! (2 ∷ 6 ∷ []) $ free1 ! $ move ! (1 ∷ 4 ∷ []) $ free1 ! $ move ! (0 ∷ 2 ∷ []) $ free1 ! $
             free0 ! $ by ! over

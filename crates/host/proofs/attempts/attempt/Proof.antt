@@ -14,9 +14,10 @@ use prog.Memory.{Memory}
 use prog.Routine.{Routine}
 use prog.Wp.{Heap, Calls, Loops, WpFn, Tables}
 use ghost.Atoms.{Atoms, sem}
+use contract.Lifetimes.{Lfts}
 use contract.Monad.{Fun, fact}
 use contract.Running.{givenOf, tables, tablesOf}
-use types.Kit.{Given, ‵, raw, given, ⋆, _⊛_, some, later, _$_, _∵_, !, qed, by, move, keep, drop, use1, use2, use3, split, join, pick}
+use types.Kit.{Given, Item, ‵, raw, given, ⋆, _⊛_, some, later, _$_, _∵_, !, qed, by, move, keep, drop, use1, use2, use3, split, join, pick}
 use types.Kit.{learn, fsplit, fjoin, feqL, suffices, frame, await, done}
 use types.Run.{look, init, forget, stop, hop, fld, from, load, addr, and-then, no-more, land, of-opd, assigns, returns, enter, alloc1}
 use types.Run.{alloc0, params1, pass1, pass0, free1, free0}
@@ -164,6 +165,13 @@ module _ {M : Type 1} (𝓤 : URA M) (H : Heap 𝓤) (A : Atoms 𝓤) (W : Given
   abbrev vals : List Val × (List Val × (List Val × (List Val × (List Val × (List Val × Unit {0})))))
   vals = (s ∷ [], (log-one .val log ∷ [], (planVals h, (vint w8 credential ∷ [], (vint w8 current ∷ [], (vint w64 seen ∷ [], tt))))))
 
+  -- the parameters' types, and what is passed for them
+  abbrev owned-types : List RattleType
+  owned-types = MutSlice (named 0) κ u8 ∷ LogR ∷ PlanR ∷ u8 ∷ u8 ∷ u64 ∷ []
+
+  abbrev passed-vals : List Val
+  passed-vals = s ∷ log-one .val log ∷ LL.val P.the-type P′.the-laws h ∷ vint w8 credential ∷ vint w8 current ∷ vint w64 seen ∷ []
+
   abbrev Post : Val → SProp 𝓤
   Post = walkOf 𝓤 H A attempt.ended stayed (attempt.clauses 𝓤 H A at-mem run) .post (((κ, tt), (q, tt), tt, a, vals), tt)
 
@@ -179,14 +187,39 @@ module _ {M : Type 1} (𝓤 : URA M) (H : Heap 𝓤) (A : Atoms 𝓤) (W : Given
       nothing ! $ move ! (1 ∷ 0 ∷ []) $ join ! $ frame ! $ nothing ! $ nothing ! $ fjoin ! $ nothing ! $ fjoin ! $ nothing ! $ fjoin ! $
       nothing ! $ fjoin ! $ nothing ! $ fjoin ! $ move ! (1 ∷ 0 ∷ []) $ fjoin ! $ done !
 
+  -- the lifetimes and the arguments of the two calls that the plan is lent to
+  abbrev lent-to : Lft → Lft → Lfts 2
+  lent-to ν μ = (ν, (μ, tt))
+
+  abbrev advance-args : GName → ℕ → GName → RefT (List ℕ) × (Log × (RefT Plan × (ℕ × Unit {0})))
+  advance-args δ l ε = (image-at image δ ys, (log, (plan-at l ε h, (seen, tt))))
+
+  abbrev spend-args : List ℕ → Log → ℕ → GName → Plan → RefT (List ℕ) × (Log × (RefT Plan × (ℕ × (ℕ × Unit {0}))))
+  spend-args zs next l ε p = (image-at image (image .name) zs, (next, (plan-at l ε p, (credential, (current, tt)))))
+
+  -- what they ensure, of the answer and what they leave
+  abbrev Advanced : Done → List ℕ → Plan → Type 0
+  Advanced r zs p = ShowsDoneLent (advanceOf ys log h seen) r zs p
+
+  abbrev Spent : List ℕ → Log → Plan → Done → List ℕ → Plan → Type 0
+  Spent zs next p r ws p₂ = ShowsDoneLent (spendOf zs next p credential current) r ws p₂
+
+  -- the plan in its local, lent; and a plan that came back into it
+  abbrev LentPlan : ℕ → ℕ → Plan → GName → Item 𝓤
+  LentPlan l μ p ε =
+      ‵ (MutRef (named 1) (μ ∷ []) PlanR .own (plan-at l ε p) (vptr l 0 ∷ [])) ⊛ ‵ (flent (μ ∷ []) (Body (mem PlanR) l 0 ε))
+
+  abbrev PlanBack : ℕ → Plan → Item 𝓤
+  PlanBack l p = later (given (Is PlanR p (planVals p)) (‵ (cell l p)))
+
   -- what each callee's triple binds outside
   abbrev to-advance : ℕ → GName → ℕ → ℕ → GName → Advance 𝓤 H A at-mem run .Ghost
   to-advance ν δ μ l ε = (
     (
-      (ν ∷ [], (μ ∷ [], tt)),
+      lent-to (ν ∷ []) (μ ∷ []),
       (fullShare, (fullShare, tt)),
       tt,
-      (image-at image δ ys, (log, (plan-at l ε h, (seen, tt)))),
+      advance-args δ l ε,
       (s ∷ [], (log-one .val log ∷ [], (vptr l 0 ∷ [], (vint w64 seen ∷ [], tt)))),
     ),
     tt,
@@ -195,10 +228,10 @@ module _ {M : Type 1} (𝓤 : URA M) (H : Heap 𝓤) (A : Atoms 𝓤) (W : Given
   abbrev to-spend : List ℕ → Log → Val → ℕ → ℕ → GName → Plan → Spend 𝓤 H A at-mem run .Ghost
   to-spend zs next w μ l ε p = (
     (
-      (κ, (μ ∷ [], tt)),
+      lent-to κ (μ ∷ []),
       (q, (fullShare, tt)),
       tt,
-      (image-at image (image .name) zs, (next, (plan-at l ε p, (credential, (current, tt))))),
+      spend-args zs next l ε p,
       (s ∷ [], (w ∷ [], (vptr l 0 ∷ [], (vint w8 credential ∷ [], (vint w8 current ∷ [], tt))))),
     ),
     tt,
@@ -210,6 +243,51 @@ module _ {M : Type 1} (𝓤 : URA M) (H : Heap 𝓤) (A : Atoms 𝓤) (W : Given
   abbrev to-both : Done → Val → Done → Val → Both 𝓤 H A at-mem run .Ghost
   to-both d v d′ v′ = ((tt, tt, tt, (d, (d′, tt)), (v ∷ [], (v′ ∷ [], tt))), tt)
 
+  -- what a callee gives back with its answer's value, and what follows of its contract
+  abbrev AfterAdvance : ℕ → GName → ℕ → ℕ → GName → Val → Item 𝓤
+  AfterAdvance ν δ μ l ε v =
+      later
+      (some
+      (λ (r : Done).
+      ((‵ (flft (ν ∷ []) fullShare) ⊛ ‵ (flft (μ ∷ []) fullShare) ⊛ ‵ ftrue) ⊛ ‵ (DoneR .own r (v ∷ []))) ⊛ raw
+      (ensured 𝓤 H A advance.ended (advance.clauses 𝓤 H A at-mem run) (lent-to (ν ∷ []) (μ ∷ [])) (advance-args δ l ε) tt r)))
+
+  abbrev AdvanceEnsured : ℕ → GName → ℕ → ℕ → GName → Done → Item 𝓤
+  AdvanceEnsured ν δ μ l ε r =
+      some
+      (λ (t : Lasts advance.ended (lent-to (ν ∷ []) (μ ∷ [])) (advance-args δ l ε)).
+      ‵ (lasts advance.ended (lent-to (ν ∷ []) (μ ∷ [])) (advance-args δ l ε) t) ⊛ raw (fact 𝓤 (Advanced r (t .0) (t .1 .1 .0))))
+
+  abbrev AfterLog : Done → Val → Item 𝓤
+  AfterLog d v =
+      later
+      (some
+      (λ (r : Log).
+      (‵ ftrue ⊛ ‵ (LogR .own r (v ∷ []))) ⊛ raw
+      (ensured 𝓤 H A log-after.ended (log-after.clauses 𝓤 H A at-mem run) tt (d, tt) tt r)))
+
+  abbrev AfterSpend : List ℕ → Log → ℕ → ℕ → GName → Plan → Val → Item 𝓤
+  AfterSpend zs next μ l ε p v =
+      later
+      (some
+      (λ (r : Done).
+      ((‵ (flft κ q) ⊛ ‵ (flft (μ ∷ []) fullShare) ⊛ ‵ ftrue) ⊛ ‵ (DoneR .own r (v ∷ []))) ⊛ raw
+      (ensured 𝓤 H A spend.ended (spend.clauses 𝓤 H A at-mem run) (lent-to κ (μ ∷ [])) (spend-args zs next l ε p) tt r)))
+
+  abbrev SpendEnsured : List ℕ → Log → ℕ → ℕ → GName → Plan → Done → Item 𝓤
+  SpendEnsured zs next μ l ε p r =
+      some
+      (λ (w : Lasts spend.ended (lent-to κ (μ ∷ [])) (spend-args zs next l ε p)).
+      ‵ (lasts spend.ended (lent-to κ (μ ∷ [])) (spend-args zs next l ε p) w) ⊛ raw (fact 𝓤 (Spent zs next p r (w .0) (w .1 .1 .0))))
+
+  abbrev AfterBoth : Done → Done → Val → Item 𝓤
+  AfterBoth d d′ v =
+      later
+      (some
+      (λ (r : Attempted).
+      (‵ ftrue ⊛ ‵ (BothR .own r (v ∷ []))) ⊛ raw
+      (ensured 𝓤 H A both.ended (both.clauses 𝓤 H A at-mem run) tt (d, (d′, tt)) tt r)))
+
   module _ (C : Calls 𝓤 H) (Λ : Loops 𝓤 H) (fm : FmC 𝓤 H (W .laws) C)
       (known-advance : Triple 𝓤 (C advance-def.name) (Advance 𝓤 H A at-mem run))
       (known-spend : Triple 𝓤 (C spend-def.name) (Spend 𝓤 H A at-mem run))
@@ -218,54 +296,17 @@ module _ {M : Type 1} (𝓤 : URA M) (H : Heap 𝓤) (A : Atoms 𝓤) (W : Given
     walk : Room u8 (length ys) → Is LogR log (log-one .val log ∷ []) → Is PlanR h (planVals h) → Is u8 credential (vint w8 credential ∷ [])
         → Is u8 current (vint w8 current ∷ []) → Is u64 seen (vint w64 seen ∷ [])
         → ent 𝓤 (onEntry 𝓤 H A attempt.signature (κ, tt) (q, tt) a vals)
-        (WpFn 𝓤 H C Λ code.function
-        (s ∷ log-one .val log ∷ LL.val P.the-type P′.the-laws h ∷ vint w8 credential ∷ vint w8 current ∷ vint w64 seen ∷ []) Post)
+        (WpFn 𝓤 H C Λ code.function passed-vals Post)
     walk room is-log is-plan is-credential is-current is-seen =
-        qed W ((‵ (flft κ q) ⊛ ‵ ftrue) ∷ ‵ (owns (MutSlice (named 0) κ u8 ∷ LogR ∷ PlanR ∷ u8 ∷ u8 ∷ u64 ∷ []) a vals) ∷ [])
-        ∵ enter ! C Λ code.function
-        (s ∷ log-one .val log ∷ LL.val P.the-type P′.the-laws h ∷ vint w8 credential ∷ vint w8 current ∷ vint w64 seen ∷ []) _ $
-        alloc1 !
-        (λ l₀.
-        alloc1 !
-        (λ l₁.
-        alloc1 !
-        (λ l₂.
-        alloc1 !
-        (λ l₃.
-        alloc1 !
-        (λ l₄.
-        alloc1 !
-        (λ l₅.
-        alloc1 !
-        (λ l₆.
-        alloc1 !
-        (λ l₇.
-        alloc1 !
-        (λ l₈.
-        alloc1 !
-        (λ l₉.
-        alloc1 !
-        (λ l₁₀.
-        alloc1 !
-        (λ l₁₁.
-        alloc1 !
-        (λ l₁₂.
-        alloc1 !
-        (λ l₁₃.
-        alloc1 !
-        (λ l₁₄.
-        alloc1
-        !
-        (λ l₁₅.
-        alloc1
-        !
-        (λ l₁₆.
-        alloc0
-        !
-        $
-        params1
-        !
-        $
+        let log-makes = LL.makes Lg.the-type Lg′.the-plain 𝓤 H A in
+        let done-makes = LL.makes D.the-type D′.the-plain 𝓤 H A in
+        qed W ((‵ (flft κ q) ⊛ ‵ ftrue) ∷ ‵ (owns owned-types a vals) ∷ [])
+        ∵ enter ! C Λ code.function passed-vals _ $
+        alloc1 ! (λ l₀. alloc1 ! (λ l₁. alloc1 ! (λ l₂. alloc1 ! (λ l₃.
+        alloc1 ! (λ l₄. alloc1 ! (λ l₅. alloc1 ! (λ l₆. alloc1 ! (λ l₇.
+        alloc1 ! (λ l₈. alloc1 ! (λ l₉. alloc1 ! (λ l₁₀. alloc1 ! (λ l₁₁.
+        alloc1 ! (λ l₁₂. alloc1 ! (λ l₁₃. alloc1 ! (λ l₁₄. alloc1 ! (λ l₁₅.
+        alloc1 ! (λ l₁₆. alloc0 ! $ params1 ! $
         pass1 ! (init ! 30 refl (tt, (tt, (record { fits = room .0 }, tt)))) $
         pass1 ! (init ! 28 refl (typed 𝓤 H A W LogR log-one log _ is-log)) $
         pass1 ! (init ! 26 refl (typed 𝓤 H A W PlanR plan-one h _ is-plan)) $
@@ -295,17 +336,11 @@ module _ {M : Type 1} (𝓤 : URA M) (H : Heap 𝓤) (A : Atoms 𝓤) (W : Given
         lft-new ! tt
         (λ μ.
         move ! (23 ∷ []) $
-        use1 W
-        (later
-        (some
-        (λ (ε : GName).
-        ‵ (MutRef (named 1) (μ ∷ []) PlanR .own (plan-at l₇ ε h) (vptr l₇ 0 ∷ [])) ⊛ ‵
-        (flent (μ ∷ []) (Body (mem PlanR) l₇ 0 ε)))))
-        (lends-local 𝓤 H A W l₇ (μ ∷ []) h is-plan) $
+        use1 W (later (some (LentPlan l₇ μ h))) (lends-local 𝓤 H A W l₇ (μ ∷ []) h is-plan) $
         await ! tt $ pick ! (λ ε. split ! $
         -- [the plan's reference; what comes back of it; its token; the image; what comes back of it; its token; …; _16; …]: the number
         owned ! u64 (Is u64) (uint-makes 𝓤 H A W w64) seen _ is-seen $ nothing ! $ move ! (1 ∷ 0 ∷ []) $ fjoin ! $ move ! (1 ∷ 0 ∷ []) $
-        fjoin ! $ owned ! LogR (Is LogR) (LL.makes Lg.the-type Lg′.the-plain 𝓤 H A) log _ is-log $ fjoin ! $ move ! (3 ∷ 0 ∷ []) $ fjoin ! $
+        fjoin ! $ owned ! LogR (Is LogR) log-makes log _ is-log $ fjoin ! $ move ! (3 ∷ 0 ∷ []) $ fjoin ! $
         move ! (2 ∷ 5 ∷ []) $ join ! $ move ! (4 ∷ 0 ∷ []) $ join ! $ join ! $ nothing ! $ move ! (1 ∷ 0 ∷ []) $ join ! $
         use1 W (raw (Advance 𝓤 H A at-mem run .pre (to-advance ν δ μ l₇ ε))) (id⊢ 𝓤 _) $
         calls-at ! fm (Advance 𝓤 H A at-mem run) known-advance (to-advance ν δ μ l₇ ε)
@@ -314,49 +349,29 @@ module _ {M : Type 1} (𝓤 : URA M) (H : Heap 𝓤) (A : Atoms 𝓤) (W : Given
         (and-then ! (load ! (from ! (stop !)) (look ! 9 refl))
         (and-then ! (load ! (from ! (stop !)) (look ! 22 refl)) (no-more !)))))
         (λ v₁.
-        use1 W
-        (later
-        (some
-        (λ (r : Done).
-        ((‵ (flft (ν ∷ []) fullShare) ⊛ ‵ (flft (μ ∷ []) fullShare) ⊛ ‵ ftrue) ⊛ ‵ (DoneR .own r (v₁ ∷ []))) ⊛ raw
-        (ensured 𝓤 H A advance.ended (advance.clauses 𝓤 H A at-mem run) (ν ∷ [], (μ ∷ [], tt))
-        (image-at image δ ys, (log, (plan-at l₇ ε h, (seen, tt)))) tt r))))
-        (id⊢ 𝓤 _) $
+        use1 W (AfterAdvance ν δ μ l₇ ε v₁) (id⊢ 𝓤 _) $
         await ! tt $ pick ! (λ r₁.
         split ! $ move ! (1 ∷ []) $
-        use1 W
-        (some
-        (λ (t : Lasts advance.ended (ν ∷ [], (μ ∷ [], tt)) (image-at image δ ys, (log, (plan-at l₇ ε h, (seen, tt))))).
-        ‵ (lasts advance.ended (ν ∷ [], (μ ∷ [], tt)) (image-at image δ ys, (log, (plan-at l₇ ε h, (seen, tt)))) t) ⊛ raw
-        (fact 𝓤 (ShowsDoneLent (advanceOf ys log h seen) r₁ (t .0) (t .1 .1 .0)))))
-        (id⊢ 𝓤 _) $
-        pick ! (λ t.
-        split ! $ move ! (1 ∷ []) $
-        heard ! (ShowsDoneLent (advanceOf ys log h seen) r₁ (t .0) (t .1 .1 .0))
+        use1 W (AdvanceEnsured ν δ μ l₇ ε r₁) (id⊢ 𝓤 _) $
+        pick ! (λ t. let zs = t .0 in let p = t .1 .1 .0 in split ! $ move ! (1 ∷ []) $
+        heard ! (Advanced r₁ zs p)
         (λ e₁. fsplit ! $ fsplit ! $ move ! (1 ∷ []) $ feqL ! (λ n₁. move ! (1 ∷ []) $ fsplit ! $ drop ! $ fsplit ! $
         -- both come back: the plan as the call left it, and the image
         move ! (3 ∷ []) $ split ! $ split ! $ lft-end ! tt $ move ! (1 ∷ []) $ split ! $ lft-end ! tt $ move ! (0 ∷ 7 ∷ 4 ∷ []) $
-        use3 W (later (given (Is PlanR (t .1 .1 .0) (planVals (t .1 .1 .0))) (‵ (cell l₇ (t .1 .1 .0)))))
-        (local-back 𝓤 H A W l₇ (μ ∷ []) ε (t .1 .1 .0)) $
+        use3 W (PlanBack l₇ p) (local-back 𝓤 H A W l₇ (μ ∷ []) ε p) $
         await ! tt $ learn ! (λ is-left. move ! (2 ∷ 6 ∷ 5 ∷ []) $
-        use3 W (later (‵ (MutSlice (named 0) κ u8 .own (image-at image (image .name) (t .0)) (s ∷ [])) ⊛ ‵ (flft κ q)))
-        (image-back 𝓤 H A W image κ q (ν ∷ []) δ (t .0) room n₁) $
+        use3 W (later (‵ (MutSlice (named 0) κ u8 .own (image-at image (image .name) zs) (s ∷ [])) ⊛ ‵ (flft κ q)))
+        (image-back 𝓤 H A W image κ q (ν ∷ []) δ zs room n₁) $
         await ! tt $ split ! $
         move ! (4 ∷ []) $
         peeks ! DoneR (Is DoneR) (shows 𝓤 H A DoneR) r₁ (v₁ ∷ [])
         (λ is₁. drop ! $ land ! (from ! (stop !)) (init ! 21 refl (typed 𝓤 H A W DoneR done-one r₁ v₁ is₁)) $
         -- [the image; its token; the plan's local; …; …; _16; …]: the log that the number left
-        owned ! DoneR (Is DoneR) (LL.makes D.the-type D′.the-plain 𝓤 H A) r₁ (v₁ ∷ []) is₁ $ nothing ! $ move ! (1 ∷ 0 ∷ []) $ fjoin ! $
+        owned ! DoneR (Is DoneR) done-makes r₁ (v₁ ∷ []) is₁ $ nothing ! $ move ! (1 ∷ 0 ∷ []) $ fjoin ! $
         nothing ! $ join ! $ nothing ! $ move ! (1 ∷ 0 ∷ []) $ join ! $
         use1 W (raw (LogAfter 𝓤 H A at-mem run .pre (to-log r₁ v₁))) (id⊢ 𝓤 _) $
         calls-at ! fm (LogAfter 𝓤 H A at-mem run) known-log (to-log r₁ v₁) (and-then ! (load ! (from ! (stop !)) (look ! 22 refl)) (no-more !)) (λ v₂.
-        use1 W
-        (later
-        (some
-        (λ (r : Log).
-        (‵ ftrue ⊛ ‵ (LogR .own r (v₂ ∷ []))) ⊛ raw
-        (ensured 𝓤 H A log-after.ended (log-after.clauses 𝓤 H A at-mem run) tt (r₁, tt) tt r))))
-        (id⊢ 𝓤 _) $
+        use1 W (AfterLog r₁ v₂) (id⊢ 𝓤 _) $
         await ! tt $ pick ! (λ next.
         split ! $ move ! (1 ∷ []) $ use1 W (raw (fact 𝓤 (next ≡ r₁ .log))) (log-is 𝓤 H A at-mem run r₁ next) $
         heard ! (next ≡ r₁ .log) (λ e₂. split ! $ drop ! $
@@ -373,70 +388,43 @@ module _ {M : Type 1} (𝓤 : URA M) (H : Heap 𝓤) (A : Atoms 𝓤) (W : Given
         lft-new ! tt
         (λ μ₂.
         move ! (3 ∷ []) $
-        use1 W
-        (later
-        (some
-        (λ (ε₂ : GName).
-        ‵ (MutRef (named 1) (μ₂ ∷ []) PlanR .own (plan-at l₇ ε₂ (t .1 .1 .0)) (vptr l₇ 0 ∷ [])) ⊛ ‵
-        (flent (μ₂ ∷ []) (Body (mem PlanR) l₇ 0 ε₂)))))
-        (lends-local 𝓤 H A W l₇ (μ₂ ∷ []) (t .1 .1 .0) is-left) $
+        use1 W (later (some (LentPlan l₇ μ₂ p))) (lends-local 𝓤 H A W l₇ (μ₂ ∷ []) p is-left) $
         await ! tt $ pick ! (λ ε₂. split ! $
         owned ! u8 (Is u8) (uint-makes 𝓤 H A W w8) current _ is-current $ nothing ! $ move ! (1 ∷ 0 ∷ []) $ fjoin ! $
         owned ! u8 (Is u8) (uint-makes 𝓤 H A W w8) credential _ is-credential $ fjoin ! $ move ! (1 ∷ 0 ∷ []) $ fjoin ! $
-        owned ! LogR (Is LogR) (LL.makes Lg.the-type Lg′.the-plain 𝓤 H A) next (v₂ ∷ []) is-next $ fjoin ! $ move ! (3 ∷ 0 ∷ []) $ fjoin ! $
+        owned ! LogR (Is LogR) log-makes next (v₂ ∷ []) is-next $ fjoin ! $ move ! (3 ∷ 0 ∷ []) $ fjoin ! $
         move ! (2 ∷ 4 ∷ []) $ join ! $ move ! (3 ∷ 0 ∷ []) $ join ! $ join ! $ nothing ! $ move ! (1 ∷ 0 ∷ []) $ join ! $
-        use1 W (raw (Spend 𝓤 H A at-mem run .pre (to-spend (t .0) next v₂ μ₂ l₇ ε₂ (t .1 .1 .0)))) (id⊢ 𝓤 _) $
-        calls-at ! fm (Spend 𝓤 H A at-mem run) known-spend (to-spend (t .0) next v₂ μ₂ l₇ ε₂ (t .1 .1 .0))
+        use1 W (raw (Spend 𝓤 H A at-mem run .pre (to-spend zs next v₂ μ₂ l₇ ε₂ p))) (id⊢ 𝓤 _) $
+        calls-at ! fm (Spend 𝓤 H A at-mem run) known-spend (to-spend zs next v₂ μ₂ l₇ ε₂ p)
         (and-then ! (load ! (from ! (stop !)) (look ! 5 refl))
         (and-then ! (load ! (from ! (stop !)) (look ! 17 refl))
         (and-then ! (load ! (from ! (stop !)) (look ! 3 refl))
         (and-then ! (load ! (from ! (stop !)) (look ! 26 refl))
         (and-then ! (load ! (from ! (stop !)) (look ! 24 refl)) (no-more !))))))
         (λ v₃.
-        use1 W
-        (later
-        (some
-        (λ (r : Done).
-        ((‵ (flft κ q) ⊛ ‵ (flft (μ₂ ∷ []) fullShare) ⊛ ‵ ftrue) ⊛ ‵ (DoneR .own r (v₃ ∷ []))) ⊛ raw
-        (ensured 𝓤 H A spend.ended (spend.clauses 𝓤 H A at-mem run) (κ, (μ₂ ∷ [], tt))
-        (image-at image (image .name) (t .0), (next, (plan-at l₇ ε₂ (t .1 .1 .0), (credential, (current, tt)))))
-        tt r))))
-        (id⊢ 𝓤 _) $
+        use1 W (AfterSpend zs next μ₂ l₇ ε₂ p v₃) (id⊢ 𝓤 _) $
         await ! tt $ pick ! (λ r₃.
         split ! $ move ! (1 ∷ []) $
-        use1 W
-        (some
-        (λ (w : Lasts spend.ended (κ, (μ₂ ∷ [], tt)) (image-at image (image .name) (t .0), (next, (plan-at l₇ ε₂ (t .1 .1 .0), (credential, (current, tt)))))).
-        ‵
-        (lasts spend.ended (κ, (μ₂ ∷ [], tt))
-        (image-at image (image .name) (t .0), (next, (plan-at l₇ ε₂ (t .1 .1 .0), (credential, (current, tt))))) w)
-        ⊛ raw (fact 𝓤 (ShowsDoneLent (spendOf (t .0) next (t .1 .1 .0) credential current) r₃ (w .0) (w .1 .1 .0))))) (id⊢ 𝓤 _) $ pick ! (λ w.
-        split ! $ move ! (1 ∷ []) $
-        heard ! (ShowsDoneLent (spendOf (t .0) next (t .1 .1 .0) credential current) r₃ (w .0) (w .1 .1 .0))
+        use1 W (SpendEnsured zs next μ₂ l₇ ε₂ p r₃) (id⊢ 𝓤 _) $
+        pick ! (λ w. let ws = w .0 in let p₂ = w .1 .1 .0 in split ! $ move ! (1 ∷ []) $
+        heard ! (Spent zs next p r₃ ws p₂)
         (λ e₃. fsplit ! $ fsplit ! $ move ! (1 ∷ []) $ feqL ! (λ n₂. move ! (1 ∷ []) $ fsplit ! $ drop ! $ fsplit ! $
         -- the plan's local comes back, to be freed
         move ! (3 ∷ []) $ split ! $ split ! $ move ! (1 ∷ []) $ split ! $ lft-end ! tt $ move ! (0 ∷ 7 ∷ 4 ∷ []) $
-        use3 W (later (given (Is PlanR (w .1 .1 .0) (planVals (w .1 .1 .0))) (‵ (cell l₇ (w .1 .1 .0)))))
-        (local-back 𝓤 H A W l₇ (μ₂ ∷ []) ε₂ (w .1 .1 .0)) $
+        use3 W (PlanBack l₇ p₂) (local-back 𝓤 H A W l₇ (μ₂ ∷ []) ε₂ p₂) $
         await ! tt $ learn ! (λ _.
         move ! (3 ∷ []) $
         peeks ! DoneR (Is DoneR) (shows 𝓤 H A DoneR) r₃ (v₃ ∷ [])
         (λ is₃. drop ! $ land ! (from ! (stop !)) (init ! 18 refl (typed 𝓤 H A W DoneR done-one r₃ v₃ is₃)) $
         -- [the plan's local; …; the image's token; …; its last bytes; …; _16; …]: both answers
-        nothing ! $ owned ! DoneR (Is DoneR) (LL.makes D.the-type D′.the-plain 𝓤 H A) r₃ (v₃ ∷ []) is₃ $ fjoin ! $
-        owned ! DoneR (Is DoneR) (LL.makes D.the-type D′.the-plain 𝓤 H A) r₁ (v₁ ∷ []) is₁ $ fjoin ! $ nothing ! $ join ! $ nothing ! $
+        nothing ! $ owned ! DoneR (Is DoneR) done-makes r₃ (v₃ ∷ []) is₃ $ fjoin ! $
+        owned ! DoneR (Is DoneR) done-makes r₁ (v₁ ∷ []) is₁ $ fjoin ! $ nothing ! $ join ! $ nothing ! $
         move ! (1 ∷ 0 ∷ []) $ join ! $
         use1 W (raw (Both 𝓤 H A at-mem run .pre (to-both r₁ v₁ r₃ v₃))) (id⊢ 𝓤 _) $
         calls-at ! fm (Both 𝓤 H A at-mem run) known-both (to-both r₁ v₁ r₃ v₃)
         (and-then ! (load ! (from ! (stop !)) (look ! 23 refl)) (and-then ! (load ! (from ! (stop !)) (look ! 19 refl)) (no-more !)))
         (λ v.
-        use1 W
-        (later
-        (some
-        (λ (r : Attempted).
-        (‵ ftrue ⊛ ‵ (BothR .own r (v ∷ []))) ⊛ raw
-        (ensured 𝓤 H A both.ended (both.clauses 𝓤 H A at-mem run) tt (r₁, (r₃, tt)) tt r))))
-        (id⊢ 𝓤 _) $
+        use1 W (AfterBoth r₁ r₃ v) (id⊢ 𝓤 _) $
         await ! tt $ pick ! (λ r.
         split ! $ move ! (1 ∷ []) $ use1 W (raw (fact 𝓤 (r ≡ record { numbered = r₁; spent = r₃ }))) (both-is 𝓤 H A at-mem run r₁ r₃ r) $
         heard ! (r ≡ record { numbered = r₁; spent = r₃ }) (λ e₄. split ! $ drop ! $
@@ -452,7 +440,7 @@ module _ {M : Type 1} (𝓤 : URA M) (H : Heap 𝓤) (A : Atoms 𝓤) (W : Given
         move ! (10 ∷ 11 ∷ []) $ free1 ! $ move ! (8 ∷ 9 ∷ []) $ free1 ! $ move ! (6 ∷ 7 ∷ []) $ free1 ! $ free0 ! $
         keep ! (2 ∷ 4 ∷ 0 ∷ []) $
         by !
-        (exits r v (w .0) (attempted ys log h credential current seen r₁ (t .0) (t .1 .1 .0) e₁ next e₂ r₃ (w .0) (w .1 .1 .0) e₃ r e₄)
+        (exits r v ws (attempted ys log h credential current seen r₁ zs p e₁ next e₂ r₃ ws p₂ e₃ r e₄)
         (n₂ ∙ n₁)))))))))))))))))))))))))))))))))))))))))))))))
 
 module _ {M : Type 1} (𝓤 : URA M) (H : Heap 𝓤) (A : Atoms 𝓤) (W : Given 𝓤 H A) (at-mem : Memory → SProp 𝓤) (run : Routine → Fun 𝓤) where
