@@ -48,7 +48,17 @@ module _ (w : tie.After-format-with) where
     empty : (cut : Bool) → recordsOf (outcome cut .log) ≡ []
     empty cut = format-empty (start-of .args .sectors) (start-of .args .log) (flash-of cut) (start-of .pre .some) (told cut true d)
 
-formed : (l : tie.Else1) → isDone (l .before .before .before .before .format-with .result .answer) ≡ true
+-- from where the format was done: the format; and from the decision: no anchor is held, and the format was done
+abbrev format-at : tie.Else1 → tie.After-format-with
+format-at l = l .before .before .before .before
+
+abbrev none-at : tie.After-anchor-decision → tie.After-none
+none-at d = d .before .before .before .before
+
+abbrev done-at : tie.After-anchor-decision → tie.Else1
+done-at d = none-at d .before
+
+formed : (l : tie.Else1) → isDone (format-at l .format-with .result .answer) ≡ true
 formed l = let d = l .before in sym (d .is-done .ensures) ∙ not-false (d .is-done .result) (l .if1 .left)
 
 empty-table-requires : tie.Need-empty-table-requires
@@ -83,8 +93,8 @@ perform-requires : tie.Need-perform-requires
 unfolding placeOf
 perform-requires c κs =
     let d = c .before in
-    let l = d .before .before .before .before .before in
-    let w = l .before .before .before .before in
+    let l = done-at d in
+    let w = format-at l in
     let s = start-of w in
     let r = w .format-with .result in
     let e = shown w true .answered in
@@ -112,15 +122,14 @@ returns-2 : tie.Need-returns-2
 returns-2 c = λ cut.
     let p = c .before .before in
     let d = p .before .before in
-    let z = d .before .before .before .before in
-    let l = z .before in
-    let w = l .before .before .before .before in
+    let l = done-at d in
+    let w = format-at l in
     let a = start-of w .args in
     let o = outcome w cut in
     let e = shown w cut .answered in
     let left = shown w cut .left in
     let decision : d .anchor-decision .result ≡ anchorDecision none true (a .new) =
-    d .anchor-decision .ensures ∙ ap (λ (x : Raw). anchorDecision (record { some = false; raw = x }) true (a .new)) (z .none .ensures) in
+    d .anchor-decision .ensures ∙ ap (λ (x : Raw). anchorDecision (record { some = false; raw = x }) true (a .new)) (none-at d .none .ensures) in
     let same : performed (whenActive (w .format-with .result .log .state) (d .anchor-decision .result)) (a .sectors) (w .format-with .result .log)
     (record {
       image = w .format-with .last .0;
