@@ -24,6 +24,10 @@ use Rattle.list.proofs.list.Tie as tie
 abbrev start : tie.After-open → tie.Start
 start c = c .before .before .before .before
 
+-- from the log that was opened: where it was opened
+abbrev open-at : tie.After-log → tie.After-open
+open-at l = l .before .before .before
+
 abbrev listed : tie.Start → List ℕ
 listed s = listingIn (length (s .args .out .now)) (s .args .image .now)
 
@@ -41,7 +45,7 @@ fits c =
 
 -- an image that opened: its listing by the state
 by-state : (c : tie.After-log) (state : State) →
-    let o = c .before .before .before in
+    let o = open-at c in
     o .«open» .result .log .state ≡ state → listed (start o) ≡ stateListing (o .«open» .result .log) state
 by-state c state e =
     let d = c .before .before in
@@ -49,8 +53,11 @@ by-state c state e =
     in-state (length (start o .args .out .now)) (start o .args .image .now) (o .«open» .result) (o .before .if1 .left) (o .«open» .ensures)
     (sym (d .is-done .ensures) ∙ not-false (d .is-done .result) (c .before .if2 .left)) state e
 
+abbrev log-at : tie.After-state → tie.After-log
+log-at c = c .before .before
+
 abbrev opened : tie.After-state → tie.After-open
-opened c = c .before .before .before .before .before
+opened c = open-at (log-at c)
 
 abbrev active : tie.After-state → State
 active c = Active (c .state .given .0 .0) (c .state .given .0 .1 .0) (c .state .given .0 .1 .1 .0)
@@ -61,11 +68,18 @@ room c =
     let log = o .«open» .result .log in
     omega (arith, o .before .if1 .left, subst (λ (s : State). length (stateListing log s) ≤ longest) (c .state .given .1) (fits o .short))
 
+abbrev state-at : tie.After-put-active → tie.After-state
+state-at c = c .before .before .before
+
+-- before the records: the line of the state was put
+abbrev line-at : tie.After-put-records-arg → tie.After-put-active
+line-at c = c .before .before .before .before
+
 -- the line of the state stands
-stands : (c : tie.After-put-active) → let s = c .before .before .before in let o = opened s in
+stands : (c : tie.After-put-active) → let s = state-at c in let o = opened s in
     Begun (start o .args .out .now) 0 (stateListing (o .«open» .result .log) (active s)) (recordLines (recordsOf (o .«open» .result .log)))
     (c .put-active .last .0) (c .put-active .result)
-stands c = let s = c .before .before .before in next (room s) (begun (room s)) (c .put-active .ensures)
+stands c = let s = state-at c in next (room s) (begun (room s)) (c .put-active .ensures)
 
 returns : tie.Need-returns
 returns c =
@@ -133,8 +147,8 @@ put-active-requires c κs =
 
 put-records-requires : tie.Need-put-records-requires
 put-records-requires c κs =
-    let a = c .before .before .before .before in
-    let s = a .before .before .before in
+    let a = line-at c in
+    let s = state-at a in
     (fits (opened s) .few, room-left (room s) (stands a))
 
 same-length-2 : tie.Need-same-length-2
@@ -145,7 +159,7 @@ returns-3 c =
     let p = c .before .before in
     let e = p .before .before .before in
     let l = e .before .before in
-    holds (start (l .before .before .before)) _ (p .put-bytes2 .last .0) (p .put-bytes2 .result)
+    holds (start (open-at l)) _ (p .put-bytes2 .last .0) (p .put-bytes2 .result)
     (by-state l Unformatted (e .enum-told .given .1)) (p .put-bytes2 .ensures)
 
 same-length-3 : tie.Need-same-length-3
@@ -156,7 +170,7 @@ returns-4 c =
     let p = c .before .before in
     let e = p .before .before .before in
     let l = e .before .before in
-    holds (start (l .before .before .before)) _ (p .put-bytes3 .last .0) (p .put-bytes3 .result)
+    holds (start (open-at l)) _ (p .put-bytes3 .last .0) (p .put-bytes3 .result)
     (by-state l Failed (e .enum-told2 .given .1)) (p .put-bytes3 .ensures)
 
 same-length-4 : tie.Need-same-length-4
@@ -165,10 +179,10 @@ same-length-4 c = search needs
 returns-5 : tie.Need-returns-5
 returns-5 c =
     let p = c .before .before in
-    let a = p .before .before .before .before .before in
-    let s = a .before .before .before in
+    let a = line-at (p .before) in
+    let s = state-at a in
     holds (start (opened s)) _ (p .put-records .last .0) (p .put-records .result)
-    (by-state (s .before .before) (active s) (s .state .given .1)) (last (room s) (stands a) (p .put-records .ensures))
+    (by-state (log-at s) (active s) (s .state .given .1)) (last (room s) (stands a) (p .put-records .ensures))
 
 pub list-spec : {M : Type 1} → statement M
 list-spec =

@@ -20,28 +20,35 @@ abbrev μ-loop : tie.MeasureT-loop
 body-long : (s : tie.Start Inv-loop μ-loop) → length (s .args .r .body) ≡ 10
 body-long s = ten (s .args .r) (s .good .1 .1 .0)
 
+-- from the tag: the start; and from the id: the tag
+abbrev tag-start : tie.After-put-small Inv-loop μ-loop → tie.Start Inv-loop μ-loop
+tag-start c = c .before .before .before .before
+
+abbrev tag-at : tie.After-put-small2 Inv-loop μ-loop → tie.After-put-small Inv-loop μ-loop
+tag-at c = c .before .before .before .before
+
 -- the tag stands, and then the id
-tag-stands : (c : tie.After-put-small Inv-loop μ-loop) → let s = c .before .before .before .before in
+tag-stands : (c : tie.After-put-small Inv-loop μ-loop) → let s = tag-start c in
     Begun (s .args .out .now) (s .args .at) (recordLine (s .args .r)) (line (s .args .r .id) (s .args .r .body)) (c .put-small .last .0)
     (c .put-small .result)
 unfolding line
-tag-stands c = let s = c .before .before .before .before in next (s .pre) (begun (s .pre)) (c .put-small .ensures)
+tag-stands c = let s = tag-start c in next (s .pre) (begun (s .pre)) (c .put-small .ensures)
 
-id-next : (c : tie.After-put-small Inv-loop μ-loop) → let s = c .before .before .before .before in
+id-next : (c : tie.After-put-small Inv-loop μ-loop) → let s = tag-start c in
     Begun (s .args .out .now) (s .args .at) (recordLine (s .args .r)) (number (s .args .r .id) 32 ++ lineFrom (s .args .r .body) 0)
     (c .put-small .last .0) (c .put-small .result)
 id-next c =
-    let s = c .before .before .before .before in
+    let s = tag-start c in
     subst (λ (l : List ℕ). Begun (s .args .out .now) (s .args .at) (recordLine (s .args .r)) l (c .put-small .last .0) (c .put-small .result))
     (line-all (s .args .r .body) (s .args .r .id) (omega (arith, body-long s)))
     (tag-stands c)
 
 abbrev start : tie.After-put-small2 Inv-loop μ-loop → tie.Start Inv-loop μ-loop
-start c = c .before .before .before .before .before .before .before .before
+start c = tag-start (tag-at c)
 
 id-stands : (c : tie.After-put-small2 Inv-loop μ-loop) → let s = start c in
     Begun (s .args .out .now) (s .args .at) (recordLine (s .args .r)) (lineFrom (s .args .r .body) 0) (c .put-small2 .last .0) (c .put-small2 .result)
-id-stands c = next (start c .pre) (id-next (c .before .before .before .before)) (c .put-small2 .ensures)
+id-stands c = next (start c .pre) (id-next (tag-at c)) (c .put-small2 .ensures)
 
 abbrev entered : tie.At-loop Inv-loop μ-loop → tie.After-put-small2 Inv-loop μ-loop
 entered l = l .before .before .before
@@ -80,7 +87,7 @@ put-small-requires c κs =
 put-small-requires-2 : tie.Need-put-small-requires-2 Inv-loop μ-loop
 put-small-requires-2 c κs =
     let t = c .before .before .before in
-    let s = t .before .before .before .before in
+    let s = tag-start t in
     piece-fits (s .pre) (number (s .args .r .id) 32) (lineFrom (s .args .r .body) 0) (id-next t)
 
 loop-holds : tie.Need-loop-holds Inv-loop μ-loop
@@ -114,7 +121,8 @@ put-small-requires-4 c κs = room-left (room (entered (c .before .before))) (don
 
 same-length : tie.Need-same-length Inv-loop μ-loop
 same-length c =
-    let l = c .before .before .before .before .before in
+    let n = c .before .before .before .before in
+    let l = n .before in
     let e = entered l in
     c .before .before .put-small4 .kept .0 ∙ same-room (room e) (l .loop .inv .1) ∙ same-room (start e .pre) (id-stands e)
 

@@ -42,6 +42,10 @@ more c =
     ∙ ap (λ (r : Raw). recordLine r ++ recordLines (drop (l .loop .i + 1) rs)) (getD-take (a .count) (a .t3) (l .loop .i) nowhere (omega arith)))
     (l .loop .inv .1)
 
+-- the turn that a record was put in
+abbrev turn-at : tie.After-put-record Inv-loop μ-loop → tie.In-loop Inv-loop μ-loop
+turn-at r = r .before .before .before
+
 loop-holds : tie.Need-loop-holds Inv-loop μ-loop
 loop-holds c = (omega arith, begun (c .before .pre .1))
 
@@ -59,15 +63,16 @@ put-record-requires c κs =
     (recordLines (drop (l .loop .i + 1) (take (a .count) (a .t3)))) (more (c .before .before))
 
 add-i : tie.Need-add-i Inv-loop μ-loop
-add-i c = omega (arith, start (c .before .before .before .before .before .before) .pre .0)
+add-i c = omega (arith, start (turn-at (c .before .before) .before) .pre .0)
 
 loop-less : tie.Need-loop-less Inv-loop μ-loop
 loop-less c = omega arith
 
 loop-again : tie.Need-loop-again Inv-loop μ-loop
 loop-again c =
-    let t = c .before .before .before .before .before in
-    (omega arith, next (start (t .before) .pre .1) (more t) (c .before .before .put-record .ensures))
+    let r = c .before .before in
+    let t = turn-at r in
+    (omega arith, next (start (t .before) .pre .1) (more t) (r .put-record .ensures))
 
 same-length : tie.Need-same-length Inv-loop μ-loop
 same-length c = same-room (start (c .before) .pre .1) (c .before .loop .inv .1)

@@ -15,6 +15,13 @@ Inv-loop word most value₀ i₀ value i = (value ≤ most) × (amountFrom most 
 abbrev μ-loop : tie.MeasureT-loop
 μ-loop word most value₀ i₀ value i = length word - i
 
+abbrev start-of : tie.At-loop Inv-loop μ-loop → tie.Start Inv-loop μ-loop
+start-of l = l .before .before
+
+-- from where a digit was read: the turn of the loop
+abbrev at-loop : tie.Else3 Inv-loop μ-loop → tie.At-loop Inv-loop μ-loop
+at-loop d = d .before .before .before .before
+
 returns : tie.Need-returns Inv-loop μ-loop
 returns c = let s = c .before .args in sym (no-amount (s .most) (s .word .now) (c .if1 .taken))
 
@@ -27,7 +34,7 @@ shared-slice-read-c c = omega arith
 returns-2 : tie.Need-returns-2 Inv-loop μ-loop
 returns-2 c =
     let l = c .before .before .before in
-    let s = l .before .before .args in
+    let s = start-of l .args in
     sym
     (amount-not (s .most) (s .word .now) (l .loop .i) (l .loop .value) (omega arith)
     (below-digits (getD (s .word .now) (l .loop .i) 0) (omega arith)))
@@ -36,7 +43,7 @@ returns-2 c =
 returns-3 : tie.Need-returns-3 Inv-loop μ-loop
 returns-3 c =
     let l = c .before .before .before .before in
-    let s = l .before .before .args in
+    let s = start-of l .args in
     sym
     (amount-not (s .most) (s .word .now) (l .loop .i) (l .loop .value) (omega arith)
     (above-digits (getD (s .word .now) (l .loop .i) 0) (omega arith)))
@@ -47,8 +54,8 @@ cast-digit c = omega arith
 
 returns-4 : tie.Need-returns-4 Inv-loop μ-loop
 returns-4 c =
-    let l = c .before .before .before .before .before in
-    let s = l .before .before .args in
+    let l = at-loop (c .before) in
+    let s = start-of l .args in
     let d = getD (s .word .now) (l .loop .i) 0 in
     sym
     (amount-above (s .most) (s .word .now) (l .loop .i) (l .loop .value) (omega arith) (a-digit d (omega arith) (omega arith))
@@ -63,8 +70,8 @@ sub-if5 c = omega arith
 
 returns-5 : tie.Need-returns-5 Inv-loop μ-loop
 returns-5 c =
-    let l = c .before .before .before .before .before .before in
-    let s = l .before .before .args in
+    let l = at-loop (c .before .before) in
+    let s = start-of l .args in
     let d = getD (s .word .now) (l .loop .i) 0 in
     sym
     (amount-above (s .most) (s .word .now) (l .loop .i) (l .loop .value) (omega arith) (a-digit d (omega arith) (omega arith))
@@ -85,8 +92,8 @@ loop-less c = omega arith
 
 loop-again : tie.Need-loop-again Inv-loop μ-loop
 loop-again c =
-    let l = c .before .before .before .before .before .before in
-    let s = l .before .before .args in
+    let l = at-loop (c .before .before) in
+    let s = start-of l .args in
     let d = getD (s .word .now) (l .loop .i) 0 in (
       omega arith,
       sym (amount-further (s .most) (s .word .now) (l .loop .i) (l .loop .value) (omega arith) (a-digit d (omega arith) (omega arith)))
@@ -96,7 +103,7 @@ loop-again c =
 returns-6 : tie.Need-returns-6 Inv-loop μ-loop
 returns-6 c =
     let l = c .before in
-    let s = l .before .before .args in
+    let s = start-of l .args in
     sym (amount-end (s .most) (s .word .now) (l .loop .i) (l .loop .value) (omega arith) (l .loop .inv .0)) ∙ l .loop .inv .1
 
 pub amount-spec : {M : Type 1} → statement M

@@ -10,16 +10,22 @@ use Rattle.script.proofs.WordsBehind.{number-not, number-here}
 use Rattle.script.proofs.decimals.number.Statement.{statement}
 use Rattle.script.proofs.decimals.number.Tie as tie
 
+-- a byte stands there, and the start
+abbrev start-of : tie.Else1 → tie.Start
+start-of b = b .before .before
+
+abbrev within-at : tie.After-end → tie.Else1
+within-at e = e .before .before .before
+
 -- what the word gave is what the number is
-taken-here : (c : tie.After-amount) → let e = c .before .before in let s = e .before .before .before .before .before .args in
+taken-here : (c : tie.After-amount) → let e = c .before .before in let s = start-of (within-at e) .args in
     takenAt (e .end .result) (c .amount .result) ≡ numberAt (s .most) (s .at) (s .text .now)
 taken-here c =
     let e = c .before .before in
-    let x = e .before in
-    let s = x .before .before .before .before .args in
+    let s = start-of (within-at e) .args in
     ap₂ takenAt (e .end .ensures)
     (c .amount .ensures ∙ ap (amountOf (s .most)) (word-part (s .at + 1) (s .text .now) (e .end .result) (e .end .ensures)))
-    ∙ sym (number-here (s .most) (s .at) (s .text .now) (eq-eqb _ _ (x .if2 .left)))
+    ∙ sym (number-here (s .most) (s .at) (s .text .now) (eq-eqb _ _ (e .before .if2 .left)))
 
 returns : tie.Need-returns
 returns c = let s = c .before .before .args in sym (number-not (s .most) (s .at) (s .text .now) (no-space (s .at) (s .text .now) (omega arith)))
@@ -28,7 +34,7 @@ shared-slice-read-if2 : tie.Need-shared-slice-read-if2
 shared-slice-read-if2 c = search needs
 
 returns-2 : tie.Need-returns-2
-returns-2 c = let s = c .before .before .before .before .args in sym (number-not (s .most) (s .at) (s .text .now) (ne-eqb _ _ (c .if2 .taken)))
+returns-2 c = let s = start-of (c .before .before) .args in sym (number-not (s .most) (s .at) (s .text .now) (ne-eqb _ _ (c .if2 .taken)))
 
 add-from : tie.Need-add-from
 add-from c = search needs
@@ -44,7 +50,7 @@ part-amount-start c = search needs
 
 part-amount-end : tie.Need-part-amount-end
 part-amount-end c =
-    let s = c .before .before .before .before .before .args in
+    let s = start-of (within-at c) .args in
     omega (arith, end-within (s .at + 1) (s .text .now) (c .end .result) (c .end .ensures) (omega arith))
 
 amount-requires : tie.Need-amount-requires

@@ -10,6 +10,16 @@ use Rattle.script.proofs.HexPairs.{byte-outside, no-first, no-second, a
 use Rattle.script.proofs.hex.hex_byte.Statement.{statement}
 use Rattle.script.proofs.hex.hex_byte.Tie as tie
 
+-- from the digits' values: the first value, and the start
+abbrev start-of : tie.Else2 → tie.Start
+start-of w = w .before .before .before
+
+abbrev within-at : tie.After-hex-value → tie.Else2
+within-at h = h .before .before
+
+abbrev first-at : tie.After-hex-value2 → tie.After-hex-value
+first-at h = h .before .before
+
 returns : tie.Need-returns
 returns c = let s = c .before .before .args in sym (byte-outside (s .at) (s .text .now) (omega arith))
 
@@ -34,14 +44,16 @@ hex-value-requires-2 c κs = search needs
 returns-3 : tie.Need-returns-3
 unfolding byteAt
 returns-3 c =
-    let s = c .before .before .before .before .before .before .before .before .args in
-    sym (no-first (getD (s .text .now) (s .at) 0) (getD (s .text .now) (s .at + 1) 0) (omega (arith, c .before .before .before .hex-value .ensures)))
+    let first = first-at (c .before) in
+    let s = start-of (within-at first) .args in
+    sym (no-first (getD (s .text .now) (s .at) 0) (getD (s .text .now) (s .at + 1) 0) (omega (arith, first .hex-value .ensures)))
 
 returns-4 : tie.Need-returns-4
 unfolding byteAt
 returns-4 c =
-    let s = c .before .before .before .before .before .before .before .before .before .args in
-    sym (no-second (getD (s .text .now) (s .at) 0) (getD (s .text .now) (s .at + 1) 0) (omega (arith, c .before .before .hex-value2 .ensures)))
+    let second = c .before .before in
+    let s = start-of (within-at (first-at second)) .args in
+    sym (no-second (getD (s .text .now) (s .at) 0) (getD (s .text .now) (s .at + 1) 0) (omega (arith, second .hex-value2 .ensures)))
 
 mul-t9 : tie.Need-mul-t9
 mul-t9 c = search needs
@@ -52,9 +64,11 @@ add-t11 c = search needs
 returns-5 : tie.Need-returns-5
 unfolding byteAt
 returns-5 c =
-    let s = c .before .before .before .before .before .before .before .before .before .args in
-    let high = c .before .before .before .before .hex-value .ensures in
-    let low = c .before .before .hex-value2 .ensures in
+    let second = c .before .before in
+    let first = first-at second in
+    let s = start-of (within-at first) .args in
+    let high = first .hex-value .ensures in
+    let low = second .hex-value2 .ensures in
     ap₂ (λ (x y : ℕ). Is (16 * x + y)) high low
     ∙ sym (a-pair (getD (s .text .now) (s .at) 0) (getD (s .text .now) (s .at + 1) 0) (omega (arith, high)) (omega (arith, low)))
 

@@ -22,6 +22,9 @@ abbrev μ-loop : tie.MeasureT-loop
 abbrev start : tie.At-loop Inv-loop μ-loop → tie.Start Inv-loop μ-loop
 start l = l .before .before .before .before
 
+abbrev at-loop : tie.After-hex-byte Inv-loop μ-loop → tie.At-loop Inv-loop μ-loop
+at-loop b = b .before .before
+
 -- what is put has room
 room : (l : tie.At-loop Inv-loop μ-loop) → let s = start l .args in
     s .to + length (bytesIn (s .at) (s .text .now) (s .to) (length (s .out .now))) ≤ length (s .out .now)
@@ -57,12 +60,12 @@ enum-told : tie.Need-enum-told Inv-loop μ-loop
 enum-told c = search needs
 
 same-length : tie.Need-same-length Inv-loop μ-loop
-same-length c = long (c .before .before .before .before)
+same-length c = long (at-loop (c .before .before))
 
 returns-2 : tie.Need-returns-2 Inv-loop μ-loop
 returns-2 c =
     let b = c .before .before in
-    let l = b .before .before in
+    let l = at-loop b in
     let s = start l .args in
     ended (room l)
     (subst (Left l)
@@ -76,19 +79,19 @@ slice-write-out c = omega arith
 add-from : tie.Need-add-from Inv-loop μ-loop
 add-from c =
     let b = c .before .before .before in
-    let l = b .before .before in
+    let l = at-loop b in
     omega (arith, byte-within (l .loop .from) (start l .args .text .now) _ (sym (b .hex-byte .ensures) ∙ c .before .b .given .1))
 
 add-k : tie.Need-add-k Inv-loop μ-loop
-add-k c = omega (arith, long (c .before .before .before .before .before))
+add-k c = omega (arith, long (at-loop (c .before .before .before)))
 
 loop-less : tie.Need-loop-less Inv-loop μ-loop
-loop-less c = omega (arith, long (c .before .before .before .before .before))
+loop-less c = omega (arith, long (at-loop (c .before .before .before)))
 
 loop-again : tie.Need-loop-again Inv-loop μ-loop
 loop-again c =
     let b = c .before .before .before in
-    let l = b .before .before in
+    let l = at-loop b in
     let s = start l .args in
     let here =
     subst (Left l)

@@ -13,12 +13,19 @@ use Rattle.script.proofs.WordsBehind.{skip-not, skip-here, skip-other}
 use Rattle.script.proofs.words.skip.Statement.{statement}
 use Rattle.script.proofs.words.skip.Tie as tie
 
+-- a byte stands there, and the start
+abbrev start-of : tie.Else1 → tie.Start
+start-of b = b .before .before .before
+
+abbrev within-at : tie.After-end → tie.Else1
+within-at e = e .before .before .before
+
 -- what was compared is the word
-compared : (c : tie.After-is-same) → let s = c .before .before .before .before .before .before .before .before .args in
+compared : (c : tie.After-is-same) → let s = start-of (within-at (c .before .before)) .args in
     c .is-same .result ≡ same (wordAt (s .at + 1) (s .text .now)) (s .word .now)
 compared c =
     let e = c .before .before in
-    let s = e .before .before .before .before .before .before .args in
+    let s = start-of (within-at e) .args in
     c .is-same .ensures ∙ ap (λ (w : List ℕ). same w (s .word .now)) (word-part (s .at + 1) (s .text .now) (e .end .result) (e .end .ensures))
 
 returns : tie.Need-returns
@@ -31,7 +38,7 @@ shared-slice-read-if2 c = search needs
 
 returns-2 : tie.Need-returns-2
 returns-2 c =
-    let s = c .before .before .before .before .before .args in
+    let s = start-of (c .before .before) .args in
     sym (skip-not (s .word .now) (s .at) (s .text .now) (ne-eqb _ _ (c .if2 .taken)))
 
 add-from : tie.Need-add-from
@@ -48,7 +55,7 @@ part-is-same-start c = search needs
 
 part-is-same-end : tie.Need-part-is-same-end
 part-is-same-end c =
-    let s = c .before .before .before .before .before .before .args in
+    let s = start-of (within-at c) .args in
     omega (arith, end-within (s .at + 1) (s .text .now) (c .end .result) (c .end .ensures) (omega arith))
 
 is-same-requires : tie.Need-is-same-requires
@@ -57,16 +64,15 @@ is-same-requires c κs = search needs
 returns-3 : tie.Need-returns-3
 returns-3 c =
     let e = c .before .before .before in
-    let x = e .before in
-    let s = x .before .before .before .before .before .args in
+    let s = start-of (within-at e) .args in
     ap (λ (n : ℕ). At n) (e .end .ensures)
-    ∙ sym (skip-here (s .word .now) (s .at) (s .text .now) (eq-eqb _ _ (x .if2 .left)) (sym (compared (c .before)) ∙ c .if3 .taken))
+    ∙ sym (skip-here (s .word .now) (s .at) (s .text .now) (eq-eqb _ _ (e .before .if2 .left)) (sym (compared (c .before)) ∙ c .if3 .taken))
 
 returns-4 : tie.Need-returns-4
 returns-4 c =
-    let x = c .before .before .before .before in
-    let s = x .before .before .before .before .before .args in
-    sym (skip-other (s .word .now) (s .at) (s .text .now) (eq-eqb _ _ (x .if2 .left)) (sym (compared (c .before)) ∙ c .if3 .left))
+    let e = c .before .before .before in
+    let s = start-of (within-at e) .args in
+    sym (skip-other (s .word .now) (s .at) (s .text .now) (eq-eqb _ _ (e .before .if2 .left)) (sym (compared (c .before)) ∙ c .if3 .left))
 
 pub skip-spec : {M : Type 1} → statement M
 skip-spec =

@@ -15,10 +15,13 @@ Inv-loop out at x places₀ first₀ rest₀ places first rest = Spelling x plac
 abbrev μ-loop : tie.MeasureT-loop
 μ-loop out at x places₀ first₀ rest₀ places first rest = first
 
+abbrev start-of : tie.At-loop Inv-loop μ-loop → tie.Start Inv-loop μ-loop
+start-of l = l .before .before
+
 -- what is copied is the number's text
 text-is : (c : tie.After-loop Inv-loop μ-loop) → let l = c .before .loop in
-    take (20 - (l .first - 1)) (drop (l .first - 1) (set (l .places) (l .first - 1) (48 + l .rest))) ≡ decimal (c .before .before .before .args .x)
-text-is c = let l = c .before .loop in spell-end (c .before .before .before .args .x) (l .places) (l .first) (l .rest) (l .inv) (omega arith)
+    take (20 - (l .first - 1)) (drop (l .first - 1) (set (l .places) (l .first - 1) (48 + l .rest))) ≡ decimal (start-of (c .before) .args .x)
+text-is c = let l = c .before .loop in spell-end (start-of (c .before) .args .x) (l .places) (l .first) (l .rest) (l .inv) (omega arith)
 
 loop-holds : tie.Need-loop-holds Inv-loop μ-loop
 loop-holds c = spelling (c .before .args .x) (c .before .fits .x .fits)
@@ -39,7 +42,7 @@ loop-less : tie.Need-loop-less Inv-loop μ-loop
 loop-less c = omega (arith, c .before .loop .inv .some)
 
 loop-again : tie.Need-loop-again Inv-loop μ-loop
-loop-again c = let l = c .before .loop in spell-more (c .before .before .before .args .x) (l .places) (l .first) (l .rest) (l .inv) (omega arith)
+loop-again c = let l = c .before .loop in spell-more (start-of (c .before) .args .x) (l .places) (l .first) (l .rest) (l .inv) (omega arith)
 
 sub-first-2 : tie.Need-sub-first-2 Inv-loop μ-loop
 sub-first-2 c = c .before .loop .inv .some
@@ -65,7 +68,7 @@ part-put-bytes-end c =
     simp length-set (omega (arith, l .inv .long))
 
 put-bytes-requires : tie.Need-put-bytes-requires Inv-loop μ-loop
-put-bytes-requires c κs = rw (text-is (c .before .before .before)) (c .before .before .before .before .before .before .pre)
+put-bytes-requires c κs = let spelt = c .before .before .before in rw (text-is spelt) (start-of (spelt .before) .pre)
 
 same-length : tie.Need-same-length Inv-loop μ-loop
 same-length c = c .before .before .put-bytes .kept .0
@@ -73,9 +76,10 @@ same-length c = c .before .before .put-bytes .kept .0
 returns : tie.Need-returns Inv-loop μ-loop
 returns c =
     let p = c .before .before in
-    let a = p .before .before .before .before .before .before .before .args in
+    let spelt = p .before .before .before .before in
+    let a = start-of (spelt .before) .args in
     subst (λ (t : List ℕ). Puts (a .out .now) (a .at) t (p .put-bytes .last .0) (p .put-bytes .result))
-    (text-is (p .before .before .before .before)) (p .put-bytes .ensures)
+    (text-is spelt) (p .put-bytes .ensures)
 
 pub put-decimal-spec : {M : Type 1} → statement M
 put-decimal-spec =
