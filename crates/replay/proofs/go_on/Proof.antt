@@ -5,9 +5,15 @@ use borrow.Author.Needs.{needs}
 use Rattle.replay.proofs.go_on.Statement.{statement}
 use Rattle.replay.proofs.go_on.Tie as tie
 
--- the read in front of the lines
-abbrev read : tie.After-whole-lines → tie.After-more
-read w = w .before .before .before .before .before .before .before .before .before .before
+-- from the rest of the text: the whole lines in front of it, the read in front of them, and the start
+abbrev lines-at : tie.After-rest-arg2 → tie.After-whole-lines
+lines-at r = r .before .before .before .before .before .before .before .before .before .before
+
+abbrev read-at : tie.After-whole-lines → tie.After-more
+read-at w = w .before .before .before .before .before .before .before .before .before .before
+
+abbrev start-of : tie.After-more → tie.Start
+start-of m = m .before .before .before .before .before .before .before .before
 
 more-requires : tie.Need-more-requires
 more-requires c κs = search needs
@@ -35,11 +41,11 @@ whole-lines-requires c κs = search needs
 
 rest-requires : tie.Need-rest-requires
 rest-requires c κs =
-    let w = c .before .before .before .before .before .before .before .before .before .before in
-    let m = read w in
+    let w = lines-at c in
+    let m = read-at w in
     let kept = w .whole-lines .kept .1 .1 .1 .1 .0 in (
       (
-        omega (arith, kept, m .before .before .before .before .before .before .before .before .pre .1 .0 .1),
+        omega (arith, kept, start-of m .pre .1 .0 .1),
         (omega (arith, kept, w .whole-lines .ensures .1 .0), w .whole-lines .ensures .1 .1),
       ),
       (omega (arith, w .whole-lines .ensures .0), omega (arith, m .more .ensures .1, m .more .kept .0)),
@@ -48,7 +54,7 @@ rest-requires c κs =
 same-length-2 : tie.Need-same-length-2
 same-length-2 c =
     let r = c .before .before .before .before in
-    r .rest .kept .0 ∙ read (r .before .before .before .before .before .before .before .before .before .before .before) .more .kept .0
+    r .rest .kept .0 ∙ read-at (lines-at (r .before)) .more .kept .0
 
 same-length-3 : tie.Need-same-length-3
 same-length-3 c = search needs
@@ -65,9 +71,9 @@ same-length-6 c = search needs
 returns-2 : tie.Need-returns-2
 returns-2 c =
     let r = c .before .before .before .before in
-    let w = r .before .before .before .before .before .before .before .before .before .before .before in
+    let w = lines-at (r .before) in
     let kept = w .whole-lines .kept .1 .1 .1 .1 .0 in
-    (omega (arith, r .rest .ensures .0, read w .more .kept .0), (omega (arith, kept, r .rest .ensures .1 .0), r .rest .ensures .1 .1))
+    (omega (arith, r .rest .ensures .0, read-at w .more .kept .0), (omega (arith, kept, r .rest .ensures .1 .0), r .rest .ensures .1 .1))
 
 pub go-on-spec : {M : Type 1} → statement M
 go-on-spec =

@@ -18,8 +18,16 @@ Inv-loop text image₀ saved₀ before₀ out₀ s₀ from₀ image saved before
 abbrev μ-loop : tie.MeasureT-loop
 μ-loop text image₀ saved₀ before₀ out₀ s₀ from₀ image saved before out s from = length text - from
 
+-- from a turn's line: its end was found; and the loop
+abbrev found-at : tie.After-turn Inv-loop μ-loop → tie.Else2 Inv-loop μ-loop
+found-at t = t .before .before .before .before .before .before .before
+
 abbrev at-loop : tie.After-turn Inv-loop μ-loop → tie.At-loop Inv-loop μ-loop
-at-loop t = t .before .before .before .before .before .before .before .before .before .before .before
+at-loop t = found-at t .before .before .before .before
+
+-- from where the line's buffers are known: the line
+abbrev turn-at : tie.After-slice-known8 Inv-loop μ-loop → tie.After-turn Inv-loop μ-loop
+turn-at k = k .before .before .before .before .before .before .before .before
 
 abbrev start : tie.At-loop Inv-loop μ-loop → tie.Start Inv-loop μ-loop
 start l = l .before .before .before .before .before .before
@@ -76,17 +84,15 @@ turn-requires : tie.Need-turn-requires Inv-loop μ-loop
 turn-requires c κs = search needs
 
 add-from : tie.Need-add-from Inv-loop μ-loop
-add-from c =
-    next-fits
-    (c .before .before .before .before .before .before .before .before .before .before .before .before .before .before .before .before)
+add-from c = next-fits (found-at (turn-at (c .before)))
 
 loop-less : tie.Need-loop-less Inv-loop μ-loop
 loop-less c = search needs
 
 loop-again : tie.Need-loop-again Inv-loop μ-loop
 loop-again c =
-    let t = c .before .before .before .before .before .before .before .before .before in
-    (((image-kept t, saved-kept t), (before-kept t, out-kept t)), (ends (t .before .before .before .before .before .before .before) .1, sound t))
+    let t = turn-at (c .before) in
+    (((image-kept t, saved-kept t), (before-kept t, out-kept t)), (ends (found-at t) .1, sound t))
 
 same-length : tie.Need-same-length Inv-loop μ-loop
 same-length c = search needs
@@ -134,19 +140,19 @@ returns-3 : tie.Need-returns-3 Inv-loop μ-loop
 returns-3 c = search needs
 
 same-length-13 : tie.Need-same-length-13 Inv-loop μ-loop
-same-length-13 c = image-kept (c .before .before .before .before .before .before .before .before .before)
+same-length-13 c = image-kept (turn-at (c .before))
 
 same-length-14 : tie.Need-same-length-14 Inv-loop μ-loop
-same-length-14 c = saved-kept (c .before .before .before .before .before .before .before .before .before)
+same-length-14 c = saved-kept (turn-at (c .before))
 
 same-length-15 : tie.Need-same-length-15 Inv-loop μ-loop
-same-length-15 c = before-kept (c .before .before .before .before .before .before .before .before .before)
+same-length-15 c = before-kept (turn-at (c .before))
 
 same-length-16 : tie.Need-same-length-16 Inv-loop μ-loop
-same-length-16 c = out-kept (c .before .before .before .before .before .before .before .before .before)
+same-length-16 c = out-kept (turn-at (c .before))
 
 returns-4 : tie.Need-returns-4 Inv-loop μ-loop
-returns-4 c = let t = c .before .before .before .before .before .before .before .before .before in (at-loop t .loop .inv .1 .0, sound t)
+returns-4 c = let t = turn-at (c .before) in (at-loop t .loop .inv .1 .0, sound t)
 
 pub whole-lines-spec : {M : Type 1} → statement M
 whole-lines-spec =

@@ -4,6 +4,16 @@ use borrow.Author.Needs.{needs}
 use Rattle.replay.proofs.work.Statement.{statement}
 use Rattle.replay.proofs.work.Tie as tie
 
+-- from where the call's buffers are known: the call, the setting in front of it, and the start
+abbrev call-at : tie.After-slice-known7 → tie.After-call
+call-at k = k .before .before .before .before .before .before
+
+abbrev setting-at : tie.After-call → tie.After-setting
+setting-at k = k .before .before .before .before .before .before .before
+
+abbrev start-of : tie.After-setting → tie.Start
+start-of t = t .before .before .before .before .before .before .before
+
 until-requires : tie.Need-until-requires
 until-requires c κs = search needs
 
@@ -48,8 +58,8 @@ same-length-4 c = search needs
 
 returns-2 : tie.Need-returns-2
 returns-2 c =
-    let k = c .before .before .before .before .before .before in
-    let s = k .before .before .before .before .before .before .before .before .before .before .before .before .before .before in
+    let k = call-at c in
+    let s = start-of (setting-at k) in
     (k .call .ensures .0, omega (arith, k .call .ensures .1, s .pre .1 .1))
 
 pub work-spec : {M : Type 1} → statement M

@@ -5,6 +5,20 @@ use borrow.Author.Needs.{needs}
 use Rattle.replay.proofs.write.Statement.{statement}
 use Rattle.replay.proofs.write.Tie as tie
 
+-- from where the write is known: the write, the copy in front of it, and the start
+abbrev write-at : tie.After-struct-known → tie.After-write
+write-at k = k .before .before .before
+
+abbrev copy-at : tie.After-write → tie.After-copy
+copy-at w = w .before .before .before .before
+
+abbrev start-of : tie.After-copy → tie.Start
+start-of p = p .before .before .before .before .before .before .before .before .before
+
+-- what is worked off was taken: the write is ok
+abbrev taken-at : tie.After-worked-arg3 → tie.Else1
+taken-at a = a .before .before .before .before .before .before
+
 copy-requires : tie.Need-copy-requires
 copy-requires c κs = search needs
 
@@ -18,17 +32,13 @@ same-length-2 : tie.Need-same-length-2
 same-length-2 c = search needs
 
 returns : tie.Need-returns
-returns c = (
-  c .before .before .before .before .before .before .before .before .before .before .before .before .before .before .before .before
-      .before .pre .1 .1 .1,
-  refl,
-)
+returns c = (start-of (copy-at (write-at (c .before))) .pre .1 .1 .1, refl)
 
 worked-requires : tie.Need-worked-requires
 worked-requires c κs =
-    let w = c .before .before .before .before .before .before .before .before .before .before in
-    let p = w .before .before .before .before in
-    let s = p .before .before .before .before .before .before .before .before .before in
+    let w = write-at (taken-at c .before) in
+    let p = copy-at w in
+    let s = start-of p in
     ((s .pre .1 .1 .0, s .pre .1 .1 .1), omega (arith, w .write .kept .1 .1 .0, p .copy .kept .1 .0, s .pre .1 .0 .0, s .pre .1 .0 .1))
 
 same-length-3 : tie.Need-same-length-3
