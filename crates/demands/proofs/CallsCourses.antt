@@ -3,6 +3,7 @@
 use mathlib.Core.Path.{_≡_, refl, sym, ap, subst, _∙_}
 use mathlib.Core.Bool.{Bool, true, false, false≢true}
 use mathlib.Core.List.{List, []}
+use mathlib.Core.Logic.{inr}
 use Prim.Native.Nat.{ℕ, zero, suc, _+_, _≤_, _<_}
 use native.Mathlib.Omega.{arith}
 use lib.Dec.{eqb, leb}
@@ -42,7 +43,8 @@ use Rattle.decisions.proofs.SeedsLaws.{seeded-most}
 use Rattle.decisions.specs.Outcomes.{Outcome, flashOf, refused, entered}
 use Rattle.decisions.specs.Performing.{writtenOutcome, appended, performed, decided}
 use Rattle.log.specs.Calls.{isFirst, anchorCall, anchoredFirst, anchored, putAnchorOf, formatOn, formatOf}
-use Rattle.demands.specs.Calls.{Call, outcomeOf}
+use Rattle.demands.specs.Seen.{Seen, seen, holding, tableIn}
+use Rattle.demands.specs.Calls.{Call, outcomeOf, AnchorNoEffect, NoEffect}
 use Rattle.demands.proofs.Endings.{Fails}
 use Rattle.demands.proofs.CallsDeciding.{Decided, refuses, gives, writes, anchor-decided, anchor-first-writes}
 use Rattle.demands.proofs.CallsShapes.{Shape, Decides, by-kind}
@@ -69,7 +71,8 @@ commit-fresh (suc m) n a s t last state next f within h =
     P : Written → Type 0
     P w = isDone (w .answer) ≡ true → Fresh n t w
 
-module _ (image : List ℕ) (log : Log) (plan : Plan) where
+-- `L`: what the call may leave to be seen where it has no effect
+module _ (image : List ℕ) (log : Log) (plan : Plan) (L : Seen → Type 0) where
   abbrev n : ℕ
   n = sectorsIn (length image)
 
@@ -86,6 +89,10 @@ module _ (image : List ℕ) (log : Log) (plan : Plan) where
   abbrev emptied : Written
   emptied = commitFirst n [] Unformatted next f
 
+  -- the call may leave an empty log
+  abbrev LeavesEmpty : Type 0
+  LeavesEmpty = (z : Seen) → tableIn z ≡ holding [] → L z
+
   pub data Course : Outcome → Type 0 where
     refusal : (a : Answer) → isDone a ≡ false → Course (refused a log f)
     given : (value : ℕ) → Course (record { answer = Done; value = value; log = log; flash = f })
@@ -93,7 +100,7 @@ module _ (image : List ℕ) (log : Log) (plan : Plan) where
         → Course (writtenOutcome (appendOf n s seq head next r (joined r t) f) value (joined r t) t)
     formats : logFits n log ≡ true → 0 < n → log .state ≡ Unformatted → (new : List Raw) → length new ≤ 8
         → Course (writtenOutcome (commitFirst n new Unformatted next f) 0 new [])
-    anchors : logFits n log ≡ true → 0 < n → log .state ≡ Unformatted → isDone (emptied .answer) ≡ true → (s seq : ℕ) → s < n
+    anchors : LeavesEmpty → logFits n log ≡ true → 0 < n → log .state ≡ Unformatted → isDone (emptied .answer) ≡ true → (s seq : ℕ) → s < n
         → emptied .state ≡ Active s seq 1 → (r : Raw) (value : ℕ)
         → Course (writtenOutcome (appendOf n s seq 1 (emptied .next) r (joined r []) (emptied .flash)) value (joined r []) [])
 
@@ -148,7 +155,7 @@ module _ (image : List ℕ) (log : Log) (plan : Plan) where
       go fits some few (Active s seq head) e = refusal WriteError refl
 
   -- ---- put_anchor
-  module _ (new : Anchor) where
+  module _ (new : Anchor) (may : isFirst new ≡ true → log .state ≡ Unformatted → LeavesEmpty) where
     abbrev made : List Raw → Decision
     made u = anchorDecision (heldOf anchorTag 0 u) (roomFor anchorTag 0 u) new
 
@@ -172,9 +179,9 @@ module _ (image : List ℕ) (log : Log) (plan : Plan) where
           value = made [] .value;
           log = logOf (Active (fresh .sector) (fresh .seq) 1) (emptied .next) [];
           flash = emptied .flash;
-        }))) (sym (writing
-        .0))
-        (anchors fits some e d (fresh .sector) (fresh .seq) (fresh .within) (fresh .state-is) (made [] .rec) (made [] .value)))
+        })))
+        (sym (writing .0))
+        (anchors (may firstly e) fits some e d (fresh .sector) (fresh .seq) (fresh .within) (fresh .state-is) (made [] .rec) (made [] .value)))
 
     anchored-course : 0 < n → logFits n log ≡ true → (z : State) → log .state ≡ z → Course (anchored z new n log f)
     unfolding anchoredFirst roomFor
@@ -206,6 +213,22 @@ module _ (image : List ℕ) (log : Log) (plan : Plan) where
         entered-course true (λ (n : ℕ) (l : Log) (f : Flash). anchored (l .state) new n l f)
         (λ some fits k. anchored-course (omega arith) fits (log .state) refl)
 
-  -- ---- every call
-  pub call-course : (c : Call) → Course (outcomeOf c image log plan)
-  call-course = by-kind (λ (x : Shape). Course (x .outcome image log plan)) keyed-course anchor-course format-course
+-- ---- every call
+abbrev isBlank : State → Bool
+isBlank Unformatted = true
+isBlank Failed = false
+isBlank (Active sector seq head) = false
+
+-- a first anchor may leave an empty log
+first-empty : (new : Anchor) (log : Log) (state : State) → isFirst new ≡ true → state ≡ Unformatted → (z : Seen) → tableIn z ≡ holding []
+    → AnchorNoEffect state new log z
+first-empty new log Unformatted k e z h = inr (k, h)
+first-empty new log Failed k e z h = absurd (false≢true (ap isBlank e))
+first-empty new log (Active sector seq head) k e z h = absurd (false≢true (ap isBlank e))
+
+pub call-course : (image : List ℕ) (log : Log) (plan : Plan) (c : Call) → Course image log plan (NoEffect c log) (outcomeOf c image log plan)
+call-course image log plan =
+    by-kind (λ (x : Shape). Course image log plan (x .left log) (x .outcome image log plan))
+    (keyed-course image log plan (λ z. z ≡ seen log))
+    (λ new. anchor-course image log plan (AnchorNoEffect (log .state) new log) new (first-empty new log (log .state)))
+    (format-course image log plan (λ z. z ≡ seen log))

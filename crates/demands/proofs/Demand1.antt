@@ -44,10 +44,11 @@ use Rattle.decisions.specs.Seeds.{seedsKnown, seedTable}
 use Rattle.decisions.specs.Performing.{performed, decided, formatted}
 use Rattle.log.specs.Calls.{isFirst, anchoredFirst, anchored as anchoredOn, formatOn, putAnchorOf, formatOf}
 use Rattle.tries.specs.Tries.{triesLeftBy, loadBy}
-use Rattle.demands.specs.Calls.{Call, outcomeOf}
+use Rattle.demands.specs.Calls.{Call, outcomeOf, NoEffect}
+use Rattle.demands.specs.Seen.{Seen}
 use Rattle.demands.specs.Demand1.{leavesAll, knownIn, byState, stateAnswer, Refuses, Asked, get, get-value, remaining, anchor}
 use Rattle.demands.specs.Demand1.{lamport, needs-migration, load, replyOf, turnedAway, knownTo, stateReply, RefusesAsked}
-use Rattle.demands.specs.Demand1.{RefusesImage}
+use Rattle.demands.specs.Demand1.{Demand1Calls, Demand1Asked, Demand1Open}
 use Rattle.demands.proofs.CallsCourses.{Course, refusal, given, appends, formats, anchors, call-course}
 use Rattle.demands.proofs.CallsShapes.{Shape, by-kind}
 
@@ -127,13 +128,14 @@ module _ (image : List ℕ) (log : Log) (plan : Plan) where
   abbrev f : Flash
   f = flashOf image plan
 
-  course-unchanged : (o : Outcome) → Course image log plan o → leavesAll (o .answer) ≡ true → o ≡ refused (o .answer) log f
-  course-unchanged o (refusal a k) e = refl
-  course-unchanged o (given value) e = absurd (false≢true e)
-  course-unchanged o (appends fits s seq head k r value room) e = absurd (false≢true (sym (append-answers n s seq head (log .«next_seq») r _ f) ∙ e))
-  course-unchanged o (formats fits some k new few) e =
+  course-unchanged : (L : Seen → Type 0) (o : Outcome) → Course image log plan L o → leavesAll (o .answer) ≡ true → o ≡ refused (o .answer) log f
+  course-unchanged L o (refusal a k) e = refl
+  course-unchanged L o (given value) e = absurd (false≢true e)
+  course-unchanged L o (appends fits s seq head k r value room) e =
+      absurd (false≢true (sym (append-answers n s seq head (log .«next_seq») r _ f) ∙ e))
+  course-unchanged L o (formats fits some k new few) e =
       absurd (false≢true (sym (commit-answers n n n 0 new WriteError Unformatted (log .«next_seq») f refl) ∙ e))
-  course-unchanged o (anchors fits some k d s seq within z r value) e = absurd (false≢true (sym (append-answers n s seq 1 _ r _ _) ∙ e))
+  course-unchanged L o (anchors may fits some k d s seq within z r value) e = absurd (false≢true (sym (append-answers n s seq 1 _ r _ _) ∙ e))
 
   entered-refuses : (known : Bool) (call : ℕ → Log → Flash → Outcome) (a : Answer) → entryAnswer n log known ≡ a → isDone a ≡ false
       → entered image log plan known call ≡ refused a log f
@@ -198,14 +200,17 @@ module _ (image : List ℕ) (log : Log) (plan : Plan) where
         entered-on (seedsKnown seeds count) (λ (n : ℕ) (l : Log) (f : Flash). formatOn (l .state) (seedTable seeds count) n l f) k
         ∙ format-not-ready (seedTable seeds count) (log .state) e)
 
-  pub demand-1 : (c : Call) → Refuses c image log plan
-  demand-1 c = record {
+  refuses-all : (c : Call) → Refuses c image log plan
+  refuses-all c = record {
     no-image = λ e. call-refuses c BadImage (answer-no-image n log (knownIn c) e) refl;
     bad-log = λ e k. call-refuses c BadLog (answer-bad-log n log (knownIn c) e k) refl;
     bad-id = λ e k z. call-refuses c BadId (answer-bad-id n log (knownIn c) e k z) refl;
     not-ready = λ e k. call-not-ready e k c;
-    unchanged = course-unchanged (outcomeOf c image log plan) (call-course image log plan c);
+    unchanged = course-unchanged (NoEffect c log) (outcomeOf c image log plan) (call-course image log plan c);
   }
+
+pub demand-1-calls : Demand1Calls
+demand-1-calls c image log plan = refuses-all image log plan c
 
 -- ---- the calls that only read
 module _ (log : Log) where
@@ -259,15 +264,18 @@ module _ (log : Log) where
   asked-not-ready needs-migration e d = absurd (false≢true (sym d))
   asked-not-ready (load credential exists fresh) e d = absurd (false≢true (sym d))
 
-  pub demand-1-asked : (q : Asked) → RefusesAsked q log
-  demand-1-asked q = record {
+  asked-all : (q : Asked) → RefusesAsked q log
+  asked-all q = record {
     bad-log = λ k. asked-refused q BadLog (answer-bad-log 16 log (knownTo q) some-sectors k) refl refl;
     bad-id = λ k z. asked-refused q BadId (answer-bad-id 16 log (knownTo q) some-sectors k z) refl refl;
     not-ready = λ k z. asked-not-ready q (ap isDone (answer-done 16 log (knownTo q) some-sectors k z));
   }
 
+pub demand-1-asked : Demand1Asked
+demand-1-asked q log = asked-all log q
+
 -- ---- opening
-pub demand-1-open : (image : List ℕ) → RefusesImage image
+pub demand-1-open : Demand1Open
 unfolding openOf
 demand-1-open image e =
     ap

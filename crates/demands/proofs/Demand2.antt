@@ -1,7 +1,21 @@
--- Demand 2: what a call may answer, and leave of the image, is one thing only.
-use mathlib.Core.Path.{sym, _∙_}
-use Rattle.decisions.specs.Outcomes.{Outcome}
-use Rattle.demands.specs.Demand2.{Unique}
+-- Demand 2: what a function may answer, and leave of what it was lent, is one thing only.
+use mathlib.Core.Path.{_≡_, sym, ap, _∙_}
+use mathlib.Core.Bool.{false}
+use Rattle.crc.proofs.IeeeBits.{number, number-bits}
+use Rattle.crc.proofs.IeeeCheck.{check-unique}
+use Rattle.demands.specs.Demand2.{Demand2}
 
-pub meets-unique : (o : Outcome) → Unique o
-meets-unique o r q image other a b = (a .answered ∙ sym (b .answered), a .left ∙ sym (b .left))
+pub demand-2 : Demand2
+demand-2 = record {
+  calls = λ o x y a b i. ((a .answered ∙ sym (b .answered)) i, (a .left ∙ sym (b .left)) i);
+  lent-calls = λ o x y a b i.
+      ((a .met .answered ∙ sym (b .met .answered)) i, (a .met .left ∙ sym (b .met .left)) i, (a .left ∙ sym (b .left)) i);
+  lent-steps = λ o x y a b i.
+      ((a .met .shown ∙ sym (b .met .shown)) i, (a .met .left ∙ sym (b .met .left)) i, (a .left ∙ sym (b .left)) i);
+  attempts = λ image log plan credential current seen x y a b i. ((a .answered ∙ sym (b .answered)) i, (a .left ∙ sym (b .left)) i);
+  steps = λ o x y a b i. ((a false .shown ∙ sym (b false .shown)) i, (a false .left ∙ sym (b false .left)) i);
+  writes = λ o x y a b i. ((a false .shown ∙ sym (b false .shown)) i, (a false .left ∙ sym (b false .left)) i);
+  listings = λ image buffer x y a b i. ((a .left ∙ sym (b .left)) i, (a .past ∙ sym (b .past)) i);
+  checksums = λ bytes r q a b.
+      sym (number-bits 32 r (a .0)) ∙ ap number (check-unique _ _ _ (a .1) (b .1)) ∙ number-bits 32 q (b .0);
+}

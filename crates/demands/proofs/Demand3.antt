@@ -4,9 +4,7 @@ use mathlib.Core.Bool.{false, false≢true}
 use mathlib.Core.List.{List, [], _∷_}
 use mathlib.Core.Logic.{_⊎_, inl, inr}
 use Prim.Native.Nat.{ℕ}
-use lib.Dec.{T}
 use lib.ListN.{length}
-use lib.Pow.{areBytes}
 use Rattle.flash.specs.Image.{sectorsIn}
 use Rattle.scan.specs.Opening.{openOf}
 use Rattle.decisions.specs.Outcomes.{Outcome}
@@ -14,8 +12,8 @@ use Rattle.demands.specs.Seen.{Seen, seen, Table, tableIn, tableOf}
 use Rattle.records.specs.Logs.{recordsOf}
 use Rattle.demands.specs.Chance.{Unmatched}
 use Rattle.demands.specs.Calls.{Typed, tableAfter, NoEffect, recordOf, appendsTo}
-use Rattle.demands.specs.Sessions.{World, opened, Made, outcome, afterwards, played, AllTyped, Lasts}
-use Rattle.demands.specs.Demand3.{FindsAgain, WakesWith}
+use Rattle.demands.specs.Sessions.{World, opened, Made, outcome, afterwards, played, AllTyped, Lasts, Powered, now}
+use Rattle.demands.specs.Demand3.{FindsAgain, WakesWith, Demand3Powered, Demand3Cut}
 use Rattle.demands.proofs.Invariant.{Inv, inv-open, open-inv}
 use Rattle.demands.proofs.SafePerforming.{WakesUp, SafeCall, lasted, stopped}
 use Rattle.demands.proofs.SafeCalls.{call-safe}
@@ -85,11 +83,12 @@ safe-wakes w m (stopped c k wakes) =
         shown (inr a) = inr (ap tableIn found ∙ a)
 
 -- ---- the demand
-module _ (image : List ℕ) (bytes : T (areBytes image)) (ms : List Made) (typed : AllTyped ms) (lasts : Lasts ms (opened image)) where
-  pub demand-3-powered : FindsAgain (played ms (opened image))
-  demand-3-powered = agrees-finds (played ms (opened image)) (played-agrees ms (opened image) (open-inv image bytes) typed lasts)
+pub session-agrees : (image : List ℕ) (ms : List Made) → Powered image ms → Agree (now image ms)
+session-agrees image ms p = played-agrees ms (opened image) (open-inv image (p .bytes)) (p .typed) (p .lasts)
 
-  pub demand-3-cut : (m : Made) → Typed (m .call) → WakesWith (played ms (opened image)) m
-  demand-3-cut m t =
-      let w = played ms (opened image) in
-      safe-wakes w m (call-safe (w .image) (w .log) (played-agrees ms (opened image) (open-inv image bytes) typed lasts) (m .call) t (m .plan))
+pub demand-3-powered : Demand3Powered
+demand-3-powered image ms p = agrees-finds (now image ms) (session-agrees image ms p)
+
+pub demand-3-cut : Demand3Cut
+demand-3-cut image ms p m t =
+    let w = now image ms in safe-wakes w m (call-safe (w .image) (w .log) (session-agrees image ms p) (m .call) t (m .plan))

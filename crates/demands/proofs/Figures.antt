@@ -24,7 +24,7 @@ use Rattle.log.specs.Calls.{anchored, putAnchorOf, formatOn, formatOf}
 use Rattle.demands.specs.Healthy.{Healthy, healthy}
 use Rattle.demands.specs.Typed.{TypedSeeds}
 use Rattle.demands.specs.Calls.{Call, put-anchor, outcomeOf, Typed}
-use Rattle.demands.specs.Figures.{Reports, decisionOf, WritesWell, FormatsWell}
+use Rattle.demands.specs.Figures.{Reports, decisionOf, WritesWell, FormatsWell, HealthyWrites, HealthyFormats}
 use Rattle.demands.specs.Demand1.{knownIn}
 use Rattle.demands.proofs.Tables.{Writable}
 use Rattle.demands.proofs.Invariant.{Agrees, Inv, inv-fits}
@@ -33,6 +33,8 @@ use Rattle.demands.proofs.FiguresSucceeding.{Succeeds, performed-append
 use Rattle.demands.proofs.CallsDeciding.{anchor-sound}
 use Rattle.demands.proofs.SafeCalls.{seeds-proper}
 use Rattle.demands.proofs.Demand1.{entered-on}
+use Rattle.demands.specs.Sessions.{now}
+use Rattle.demands.proofs.Demand3.{session-agrees}
 use Rattle.demands.proofs.CallsShapes.{Shape, by-kind}
 
 module _ (image : List ℕ) (log : Log) (i : Inv image log) where
@@ -93,7 +95,7 @@ module _ (image : List ℕ) (log : Log) (i : Inv image log) where
       (λ new t e. writes-writable _ _ (recordsOf log) (anchor-sound new t (recordsOf log) (i .agrees .proper .whole) e))
       (λ seeds count t e. absurd (false≢true e))
 
-  pub writes-well : (c : Call) → Typed c → WritesWell c image log
+  writes-well : (c : Call) → Typed c → WritesWell c image log
   writes-well c typed = record {
     append = λ k s seq head e w room.
         subst (Reports _ _ 16 0) (sym (call-is c k s seq head e w))
@@ -106,7 +108,7 @@ module _ (image : List ℕ) (log : Log) (i : Inv image log) where
         most));
   }
 
-  pub formats-well : (seeds : List Seed) (count : ℕ) → TypedSeeds seeds → FormatsWell seeds count image log
+  formats-well : (seeds : List Seed) (count : ℕ) → TypedSeeds seeds → FormatsWell seeds count image log
   unfolding formatOf
   formats-well seeds count typed k e most =
       let there = subst (λ (y : State). Agrees n image y (log .«next_seq») (recordsOf log)) e (i .agrees) in
@@ -116,3 +118,10 @@ module _ (image : List ℕ) (log : Log) (i : Inv image log) where
       (λ (n : ℕ) (l : Log) (f : Flash). formatOn (l .state) (seedTable seeds count) n l f) k in
       subst (Reports 0 _ _ 4096) (sym (on ∙ ap (λ (z : State). formatOn z (seedTable seeds count) n log f) e))
       (reports 0 _ _ 4096 _ (formatted-succeeds f log refl i well e (seedTable seeds count) (seeds-proper image log i seeds count typed k) most))
+
+-- ---- in any session
+pub healthy-writes : HealthyWrites
+healthy-writes image ms p = writes-well (now image ms .image) (now image ms .log) (session-agrees image ms p)
+
+pub healthy-formats : HealthyFormats
+healthy-formats image ms p = formats-well (now image ms .image) (now image ms .log) (session-agrees image ms p)

@@ -1,5 +1,5 @@
 -- What a write that failed leaves: the state but for head, and the active sector's bytes but for the slots tried.
-use mathlib.Core.Path.{_≡_, refl, sym, ap, subst, _∙_}
+use mathlib.Core.Path.{_≡_, refl, sym, ap, ap₂, subst, _∙_}
 use mathlib.Core.Bool.{Bool, true, false, false≢true}
 use mathlib.Core.List.{List, []}
 use mathlib.Core.Logic.{_⊎_, inl, inr}
@@ -20,7 +20,7 @@ use Rattle.flash.specs.Run.{Flash, program, erase}
 use Rattle.flash.proofs.ImageView.{Fits}
 use Rattle.flash.proofs.RunLaws.{program-fits, program-beside, program-apart, erase-fits, erase-apart}
 use Rattle.records.specs.declared.State.{State}
-use Rattle.records.specs.declared.State.the-variants.{Active, Unformatted}
+use Rattle.records.specs.declared.State.the-variants.{Active, Unformatted, Failed}
 use Rattle.sectors.specs.Sectors.{writeSector}
 use Rattle.sectors.specs.Commits.{Written, sectorAfter, commitFrom, commitAfter, commitFirst}
 use Rattle.sectors.specs.Appends.{SlotTries, triesFrom, appendOf}
@@ -34,8 +34,10 @@ use Rattle.records.specs.Fitting.{logFits, seqMax}
 use Rattle.records.proofs.FittingLaws.{fits-clauses, fits-active, fits-unformatted}
 use Rattle.decisions.specs.Outcomes.{Outcome, flashOf}
 use Rattle.decisions.specs.Performing.{writtenOutcome}
-use Rattle.demands.specs.Calls.{Call, outcomeOf}
-use Rattle.demands.specs.Leaves.{Spares, Leaves}
+use Rattle.demands.specs.Seen.{seenBy, seen, tableIn}
+use Rattle.demands.specs.Calls.{Call, put, put-value, put-anchor, format, spend, set-tries, advance-lamport}
+use Rattle.demands.specs.Calls.{outcomeOf, AnchorNoEffect, NoEffect}
+use Rattle.demands.specs.Leaves.{Spares, Leaves, FailureLeaves}
 use Rattle.demands.proofs.Tables.{join-few}
 use Rattle.demands.proofs.CallsCourses.{Course, refusal, given, appends, formats, anchors, call-course}
 use Rattle.demands.proofs.Endings.{Fails}
@@ -157,6 +159,21 @@ append-state n s seq head next r t f = go (triesFrom 3 s head (slotOf seq r) Wri
         (λ e d. record { head-now = o .head; state-is = refl; past = inr (h .1 e d) })
 
 -- ---- calls
+-- a call that had no effect may leave what was seen before
+no-effect : (c : Call) (log : Log) → NoEffect c log (seen log)
+no-effect (put credential new) log = refl
+no-effect (put-value id new) log = refl
+no-effect (put-anchor new) log = go (log .state)
+  where
+    go : (z : State) → AnchorNoEffect z new log (seen log)
+    go Unformatted = inl refl
+    go Failed = refl
+    go (Active sector seq head) = refl
+no-effect (format seeds count) log = refl
+no-effect (spend credential current) log = refl
+no-effect (set-tries credential tries) log = refl
+no-effect (advance-lamport latest) log = refl
+
 module _ (image : List ℕ) (log : Log) (plan : Plan) where
   abbrev n : ℕ
   n = sectorsIn (length image)
@@ -199,25 +216,48 @@ module _ (image : List ℕ) (log : Log) (plan : Plan) where
       outside now i u (inl p) (inr l) = absurd (omega arith)
       outside now i u (inr p) (inr l) = inr (omega arith)
 
-  course-leaves : (o : Outcome) → Course image log plan o → Fails (o .answer) → Leaves image log o
-  course-leaves o (refusal a k) e = record { table = refl; sector = λ s seq head z. record { head-now = head; state-is = z; bytes = λ i u v. refl } }
-  course-leaves o (given value) e = absurd (false≢true (sym e))
-  course-leaves o (appends fits s seq head z r value room) e = record {
-    table = failed-table (appendOf n s seq head (log .«next_seq») r (joined r t) f) value (joined r t) t e;
-    sector = λ x q h y.
-        let same = active-same s seq head x q h z y in
-        subst (λ (b : ℕ). Spares b q h image o) (same .0)
-        (subst (λ (b : ℕ). Spares s b h image o) (same .1)
-        (subst (λ (b : ℕ). Spares s seq b image o) (same .2) (append-spares fits s seq head z r value room e)));
-  }
-  course-leaves o (formats fits some z new few) e = record {
-    table = failed-table (commitFirst n new Unformatted (log .«next_seq») f) 0 new [] e ∙ sym (fits-unformatted n log fits z);
-    sector = λ x q h y. absurd (unlike x q h z y);
-  }
-  course-leaves o (anchors fits some z d s seq within k r value) e = record {
-    table = failed-table (appendOf n s seq 1 _ r (joined r []) _) value (joined r []) [] e ∙ sym (fits-unformatted n log fits z);
-    sector = λ x q h y. absurd (unlike x q h z y);
-  }
+  -- the same is seen: state, sector and sequence number, and the table
+  seen-same : (o : Outcome) → (z : State) → log .state ≡ z → o .log .state ≡ z → recordsOf (o .log) ≡ t → seen (o .log) ≡ seen log
+  seen-same o z e k r = ap₂ seenBy k r ∙ ap (λ (x : State). seenBy x t) (sym e)
 
-  pub call-leaves : (c : Call) → Fails (outcomeOf c image log plan .answer) → Leaves image log (outcomeOf c image log plan)
-  call-leaves c = course-leaves (outcomeOf c image log plan) (call-course image log plan c)
+  seen-moved : (o : Outcome) (s seq head head-now : ℕ) → log .state ≡ Active s seq head → o .log .state ≡ Active s seq head-now
+      → recordsOf (o .log) ≡ t → seen (o .log) ≡ seen log
+  seen-moved o s seq head head-now e k r = ap₂ seenBy k r ∙ ap (λ (x : State). seenBy x t) (sym e)
+
+  course-leaves : (c : Call) (o : Outcome) → Course image log plan (NoEffect c log) o → Fails (o .answer) → Leaves c image log o
+  course-leaves c o (refusal a k) e = record {
+    table = refl;
+    left = no-effect c log;
+    sector = λ s seq head z. record { head-now = head; state-is = z; bytes = λ i u v. refl };
+  }
+  course-leaves c o (given value) e = absurd (false≢true (sym e))
+  course-leaves c o (appends fits s seq head z r value room) e =
+      let same = failed-table (appendOf n s seq head (log .«next_seq») r (joined r t) f) value (joined r t) t e in
+      let spares = append-spares fits s seq head z r value room e in
+      record {
+        table = same;
+        left = subst (NoEffect c log) (sym (seen-moved o s seq head (spares .head-now) z (spares .state-is) same)) (no-effect c log);
+        sector = λ x q h y.
+            let alike = active-same s seq head x q h z y in
+            subst (λ (b : ℕ). Spares b q h image o) (alike .0)
+            (subst (λ (b : ℕ). Spares s b h image o) (alike .1) (subst (λ (b : ℕ). Spares s seq b image o) (alike .2) spares));
+      }
+  course-leaves c o (formats fits some z new few) e =
+      let same = failed-table (commitFirst n new Unformatted (log .«next_seq») f) 0 new [] e ∙ sym (fits-unformatted n log fits z) in
+      let kept = commit-state n n n 0 new WriteError Unformatted (log .«next_seq») f refl e in
+      record {
+        table = same;
+        left = subst (NoEffect c log) (sym (seen-same o Unformatted z kept same)) (no-effect c log);
+        sector = λ x q h y. absurd (unlike x q h z y);
+      }
+  course-leaves c o (anchors may fits some z d s seq within k r value) e =
+      let none = failed-table (appendOf n s seq 1 _ r (joined r []) _) value (joined r []) [] e in
+      let tried = append-state n s seq 1 _ r (joined r []) _ e in
+      record {
+        table = none ∙ sym (fits-unformatted n log fits z);
+        left = may (seen (o .log)) (ap₂ (λ (x : State) (u : List Raw). tableIn (seenBy x u)) (tried .state-is) none);
+        sector = λ x q h y. absurd (unlike x q h z y);
+      }
+
+pub failure-leaves : FailureLeaves
+failure-leaves c image log plan = course-leaves image log plan c (outcomeOf c image log plan) (call-course image log plan c)

@@ -32,3 +32,5 @@ pub mod Figures
 pub mod LeavesLaws
 pub mod WearSparing
 pub mod WearSpared
+-- All the demands, as one theorem.
+pub mod Demands

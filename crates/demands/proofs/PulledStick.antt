@@ -46,17 +46,17 @@ use Rattle.demands.specs.Seen.{seen, Table, holding, tableIn, tableOf}
 use Rattle.demands.specs.Typed.{TypedAnchor}
 use Rattle.demands.specs.Calls.{Call, put, put-value, put-anchor, format, spend, set-tries, advance-lamport, outcomeOf, Typed}
 use Rattle.demands.specs.Calls.{recordOf, anchorTo, appendsTo}
-use Rattle.demands.specs.Sessions.{World, opened, Made, outcome, afterwards, played, AllTyped, Lasts}
+use Rattle.demands.specs.Sessions.{World, opened, Made, outcome, afterwards, played, AllTyped, Lasts, now}
 use Rattle.demands.specs.Figures.{decisionOf}
 use Rattle.demands.specs.PulledStick.{woken, Lucky, Remain, Has, aSet, KeepsSet, sets, begun, LeavesTries, NoneSets, begunIn}
-use Rattle.demands.specs.PulledStick.{Between, Finds, KeepsCount}
+use Rattle.demands.specs.PulledStick.{Between, Finds, KeepsCount, PulledSet, PulledOther, PulledSession}
 use Rattle.demands.proofs.Invariant.{Found, Inv, inv-open, open-inv}
 use Rattle.demands.proofs.SafePerforming.{Always, WakesUp, SafeCall, lasted, stopped, refusal-safe, decidedTable}
 use Rattle.demands.proofs.CallsDeciding.{Decided, refuses, gives, writes, Sound, put-decided, value-decided, held-blank}
 use Rattle.demands.proofs.CallsDeciding.{anchor-decided, anchor-sound}
 use Rattle.demands.proofs.CallsTrying.{spend-decided, set-decided, advance-decided, set-sound}
 use Rattle.demands.proofs.SafeCalls.{keyed-decided}
-use Rattle.demands.proofs.Demand3.{Agree, played-agrees}
+use Rattle.demands.proofs.Demand3.{Agree, played-agrees, session-agrees}
 use Rattle.demands.proofs.PulledStickSpends.{join-held, join-other, recordsIn, shown-records, spend-writes, keyed-answered}
 use Rattle.demands.proofs.CallsShapes.{Shape, by-kind}
 
@@ -415,29 +415,25 @@ played-between credential (m ∷ ms) w i typed lasts apart tries has =
     (played-between credential ms (afterwards (outcome m w)) agrees (typed .1) (lasts .1) (apart .1) (one .left) (one .remain))
 
 -- ---- in any session
-module _ (image : List ℕ) (bytes : T (areBytes image)) (ms : List Made) (typed : AllTyped ms) (lasts : Lasts ms (opened image)) (credential : ℕ) where
-  abbrev now : World
-  now = played ms (opened image)
+pub pulled-set : PulledSet
+pulled-set image ms p = set-keeps (now image ms) (session-agrees image ms p)
 
-  agrees : Agree now
-  agrees = played-agrees ms (opened image) (open-inv image bytes) typed lasts
+pub pulled-other : PulledOther
+pulled-other image ms p = other-leaves (now image ms) (session-agrees image ms p)
 
-  pub pulled-set : (new : ℕ) → credential < 256 → new < 256 → (plan : Plan) → KeepsSet now credential new plan
-  pulled-set = set-keeps now agrees credential
+pub pulled-session : PulledSession
+pulled-session image ms p credential tries has apart = record {
+  powered =
+      subst (λ (u : List Raw). Between tries (begunIn credential ms) (heldOf counterTag credential u))
+      (sym (reopened (now image ms .image) (now image ms .log) agrees)) held;
+  pulled =
+      λ m fits kept lucky.
+      between-on tries (begunIn credential ms) (begun credential (m .call)) _ _ held
+      (call-found (now image ms) agrees credential (held .left) (held .remain) m fits kept lucky);
+}
+  where
+    agrees : Agree (now image ms)
+    agrees = session-agrees image ms p
 
-  pub pulled-other : (tries : ℕ) → Has credential tries (now .log) → (m : Made) → Typed (m .call) → LeavesTries now m credential tries
-  pulled-other = other-leaves now agrees credential
-
-  pub pulled-session : (tries : ℕ) → Has credential tries (openOf image .log) → NoneSets credential ms → KeepsCount image ms credential tries
-  pulled-session tries has apart = record {
-    powered =
-        subst (λ (u : List Raw). Between tries (begunIn credential ms) (heldOf counterTag credential u))
-        (sym (reopened (now .image) (now .log) agrees)) held;
-    pulled =
-        λ m fits kept lucky.
-        between-on tries (begunIn credential ms) (begun credential (m .call)) _ _ held
-        (call-found now agrees credential (held .left) (held .remain) m fits kept lucky);
-  }
-    where
-      held : Finds credential tries (begunIn credential ms) (now .log)
-      held = played-between credential ms (opened image) (open-inv image bytes) typed lasts apart tries has
+    held : Finds credential tries (begunIn credential ms) (now image ms .log)
+    held = played-between credential ms (opened image) (open-inv image (p .bytes)) (p .typed) (p .lasts) apart tries has

@@ -40,11 +40,11 @@ use Rattle.scan.specs.Opening.{openOf}
 use Rattle.decisions.specs.Outcomes.{Outcome, flashOf, refused, entered}
 use Rattle.decisions.specs.Performing.{appended, performed, decided}
 use Rattle.demands.specs.Chance.{Unmatched}
-use Rattle.demands.specs.Sessions.{World, opened, Made, played, AllTyped, Lasts}
-use Rattle.demands.specs.PulledStick.{triesIn, KeepsTries}
+use Rattle.demands.specs.Sessions.{World, now}
+use Rattle.demands.specs.PulledStick.{triesIn, KeepsTries, PulledSpend}
 use Rattle.demands.proofs.CallsTrying.{spend-sound}
 use Rattle.demands.proofs.SafeCalls.{keyed-decided}
-use Rattle.demands.proofs.Demand3.{played-agrees}
+use Rattle.demands.proofs.Demand3.{session-agrees}
 use Rattle.demands.proofs.SafePerforming.{WakesUp, SafeCall, lasted, stopped, decidedTable}
 
 -- ---- a record that joined is the one held
@@ -354,8 +354,5 @@ module _ (w : World) (i : Inv (w .image) (w .log)) (credential current : ℕ) (f
               shown (inr a) = later-either (v .log) (v .inv) a
 
 -- in any session, and whatever the plan of the spend
-pub pulled-stick : (image : List ℕ) → T (areBytes image) → (ms : List Made) → AllTyped ms → Lasts ms (opened image)
-    → (credential current : ℕ) → credential < 256 → current < 256 → (plan : Plan)
-    → KeepsTries (played ms (opened image)) credential current plan
-pulled-stick image bytes ms typed lasts credential current fits small plan =
-    spend-keeps (played ms (opened image)) (played-agrees ms (opened image) (open-inv image bytes) typed lasts) credential current fits small plan
+pub pulled-spend : PulledSpend
+pulled-spend image ms p = spend-keeps (now image ms) (session-agrees image ms p)

@@ -21,16 +21,19 @@ use Rattle.records.proofs.FittingLaws.{fits-clauses, fits-active}
 use Rattle.sectors.specs.Commits.{commitFirst}
 use Rattle.sectors.proofs.SectorsCosts.{Within, within-on}
 use Rattle.decisions.specs.Outcomes.{Outcome, flashOf}
-use Rattle.demands.specs.Calls.{Call, outcomeOf}
-use Rattle.demands.specs.Wear.{Wears}
+use Rattle.demands.specs.Calls.{outcomeOf, NoEffect}
+use Rattle.demands.specs.Seen.{Seen}
+use Rattle.demands.specs.Wear.{Wears, CallWears}
 use Rattle.demands.proofs.Tables.{join-few}
-use Rattle.demands.proofs.WearLaws.{paid-on, commit-paid, append-paid, commit-spent, append-spent, first-costs, append-costs, append-light}
+use Rattle.demands.proofs.WearLaws.{paid-on, commit-paid, append-paid, commit-spent, append-spent, Whole, whole-none, whole-on}
+use Rattle.demands.proofs.WearLaws.{commit-full, append-full, first-costs, append-costs, append-light}
 use Rattle.demands.proofs.CallsCourses.{Course, refusal, given, appends, formats, anchors, call-course}
 
 -- what was paid for and is within bounds, from a flash that nothing was used of
 wears-by : (image : List ℕ) (plan : Plan) (o : Outcome) (p e : ℕ) → p ≤ 8000 → e ≤ 65536 → p + e < 73536
-    → Paid (flashOf image plan) (o .flash) → Within p e (flashOf image plan) (o .flash) → CutIsDead (o .flash) → Wears plan o
-wears-by image plan o p e h k few paid w dead = record {
+    → Paid (flashOf image plan) (o .flash) → Within p e (flashOf image plan) (o .flash) → CutIsDead (o .flash)
+    → Whole (flashOf image plan) (o .flash) → Wears plan o
+wears-by image plan o p e h k few paid w dead whole = record {
   limited = paid .limited;
   units = λ l. paid .units l ∙ omega arith;
   programmed = omega (arith, w .programmed);
@@ -40,6 +43,10 @@ wears-by image plan o p e h k few paid w dead = record {
       let none-left = dead c .1 in
       let used = paid .units (sym (paid .limited) ∙ dead c .0) in
       omega (arith, w .programmed, w .erased));
+  cut-limited = λ c. sym (paid .limited) ∙ dead c .0;
+  cut-spent = λ c. dead c .1;
+  whole-slots = λ c. let x = whole .slots c in omega (arith, x .1);
+  whole-sectors = λ c. let x = whole .sectors c in omega (arith, x .1);
 }
 
 module _ (image : List ℕ) (log : Log) (plan : Plan) where
@@ -65,10 +72,10 @@ module _ (image : List ℕ) (log : Log) (plan : Plan) where
   nothing : Within 0 0 f f
   nothing = record { programmed = omega arith; erased = omega arith }
 
-  course-wears : (o : Outcome) → Course image log plan o → Wears plan o
-  course-wears o (refusal a k) = wears-by image plan o 0 0 (omega arith) (omega arith) (omega arith) unused nothing uncut
-  course-wears o (given value) = wears-by image plan o 0 0 (omega arith) (omega arith) (omega arith) unused nothing uncut
-  course-wears o (appends fits s seq head e r value room) =
+  course-wears : (L : Seen → Type 0) (o : Outcome) → Course image log plan L o → Wears plan o
+  course-wears L o (refusal a k) = wears-by image plan o 0 0 (omega arith) (omega arith) (omega arith) unused nothing uncut (whole-none f)
+  course-wears L o (given value) = wears-by image plan o 0 0 (omega arith) (omega arith) (omega arith) unused nothing uncut (whole-none f)
+  course-wears L o (appends fits s seq head e r value room) =
       let placed = fits-active n log fits s seq head e in
       let held : length (recordsOf log) ≤ limit = simp length-take (omega (arith, fits-clauses n log fits .few)) in
       let most = join-few r (recordsOf log) room held in
@@ -76,11 +83,12 @@ module _ (image : List ℕ) (log : Log) (plan : Plan) where
       (append-paid n s seq head next r (joined r (recordsOf log)) f (placed .within) (placed .high))
       (append-costs (joined r (recordsOf log)) n few s seq head next r f (placed .within) most)
       (append-spent n s seq head next r (joined r (recordsOf log)) f (placed .within) (placed .high) uncut)
-  course-wears o (formats fits some e new most) =
+      (append-full n s seq head next r (joined r (recordsOf log)) f (placed .within) (placed .high))
+  course-wears L o (formats fits some e new most) =
       wears-by image plan o 2304 65536 (omega arith) (omega arith) (omega arith)
       (commit-paid n n new n 0 WriteError Unformatted next f some) (first-costs new n few Unformatted next f most)
-      (commit-spent n n new n 0 WriteError Unformatted next f some uncut)
-  course-wears o (anchors fits some e d s seq within z r value) =
+      (commit-spent n n new n 0 WriteError Unformatted next f some uncut) (commit-full n n new n 0 WriteError Unformatted next f some)
+  course-wears L o (anchors may fits some e d s seq within z r value) =
       let w = commitFirst n [] Unformatted next f in
       let none : length {A = Raw} [] ≤ 8 = omega arith in
       wears-by image plan o 2352 65536 (omega arith) (omega arith) (omega arith)
@@ -90,6 +98,8 @@ module _ (image : List ℕ) (log : Log) (plan : Plan) where
       (append-light n s seq 1 (w .next) r (joined r []) (w .flash) (omega arith)))
       (append-spent n s seq 1 (w .next) r (joined r []) (w .flash) within (omega arith)
       (commit-spent n n [] n 0 WriteError Unformatted next f some uncut))
+      (whole-on f (w .flash) (o .flash) (commit-full n n [] n 0 WriteError Unformatted next f some)
+      (append-full n s seq 1 (w .next) r (joined r []) (w .flash) within (omega arith)))
 
-  pub call-wears : (c : Call) → Wears plan (outcomeOf c image log plan)
-  call-wears c = course-wears (outcomeOf c image log plan) (call-course image log plan c)
+pub call-wears : CallWears
+call-wears c image log plan = course-wears image log plan (NoEffect c log) (outcomeOf c image log plan) (call-course image log plan c)

@@ -1,6 +1,6 @@
 -- What writes cost: limited units fall by exactly the bytes programmed and erased, and no write costs more than the paper says.
-use mathlib.Core.Path.{_≡_, refl, subst, _∙_}
-use mathlib.Core.Bool.{Bool, true, false}
+use mathlib.Core.Path.{_≡_, refl, sym, subst, _∙_}
+use mathlib.Core.Bool.{Bool, true, false, false≢true}
 use mathlib.Core.List.{List}
 use Prim.Native.Nat.{ℕ, zero, suc, _+_, _-_, _*_, _≤_, _<_}
 use native.Mathlib.Nat.{mul-le-mul}
@@ -16,8 +16,10 @@ use Rattle.basics.specs.declared.Answer.the-variants.{WriteError}
 use Rattle.basics.proofs.ChoiceLaws.{by-test}
 use Rattle.codec.specs.declared.Raw.{Raw}
 use Rattle.codec.specs.Slots.{slotOf}
-use Rattle.flash.specs.Run.{Flash, program}
+use Rattle.flash.specs.Run.{Flash, Stepped, program, erase}
 use Rattle.flash.proofs.RunLaws.{Paid, program-paid, erase-paid, CutIsDead, program-cut, erase-cut}
+use Rattle.flash.proofs.RunLaws.{Programmed, program-refused, program-stopped, program-whole, program-outcome}
+use Rattle.flash.proofs.RunLaws.{Erased, erase-refused, erase-stopped, erase-whole, erase-outcome}
 use Rattle.records.specs.declared.State.{State}
 use Rattle.records.specs.declared.State.the-variants.{Active}
 use Rattle.sectors.specs.Sectors.{writeSector}
@@ -73,6 +75,52 @@ pub append-spent : (n s seq head next : ℕ) (r : Raw) (t : List Raw) (f : Flash
 append-spent n s seq head next r t f within high =
     append-trace Spent spent-none spent-on (λ s. Any) Any (λ s k new f _. program-cut s k new f) (λ s f _. erase-cut s f) n s seq head next
     r t f within high (λ i l u z. tt) (λ x u z. tt) (λ x i u z l. tt)
+
+-- ---- where nothing was cut, all that was begun was done: whole slots, and whole sectors
+pub record Whole (f g : Flash) : Type 0 where
+  pub earlier : g .cut ≡ false → f .cut ≡ false
+  pub slots : g .cut ≡ false → (k : ℕ) × (g .programmed ≡ f .programmed + 16 * k)
+  pub sectors : g .cut ≡ false → (k : ℕ) × (g .erased ≡ f .erased + 4096 * k)
+
+pub whole-none : (f : Flash) → Whole f f
+whole-none f = record { earlier = λ c. c; slots = λ _. (0, omega arith); sectors = λ _. (0, omega arith) }
+
+pub whole-on : (f g h : Flash) → Whole f g → Whole g h → Whole f h
+whole-on f g h a b = record {
+  earlier = λ c. a .earlier (b .earlier c);
+  slots = λ c. let x = a .slots (b .earlier c) in let y = b .slots c in (x .0 + y .0, omega (arith, x .1, y .1));
+  sectors = λ c. let x = a .sectors (b .earlier c) in let y = b .sectors c in (x .0 + y .0, omega (arith, x .1, y .1));
+}
+
+program-full : (s k : ℕ) (new : List ℕ) (f : Flash) → Whole f (program s k new f .flash)
+program-full s k new f = go (program-outcome s k new f)
+  where
+    go : {r : Stepped} → Programmed s k new f r → Whole f (r .flash)
+    go (program-refused h) = record { earlier = λ c. c; slots = λ _. (0, omega arith); sectors = λ _. (0, omega arith) }
+    go (program-stopped e h) =
+        record { earlier = λ c. absurd (false≢true (sym c)); slots = λ c. absurd (false≢true (sym c)); sectors = λ _. (0, omega arith) }
+    go (program-whole e h) = record { earlier = λ c. c; slots = λ _. (1, omega arith); sectors = λ _. (0, omega arith) }
+
+erase-full : (s : ℕ) (f : Flash) → Whole f (erase s f .flash)
+erase-full s f = go (erase-outcome s f)
+  where
+    go : {r : Stepped} → Erased s f r → Whole f (r .flash)
+    go (erase-refused h) = record { earlier = λ c. c; slots = λ _. (0, omega arith); sectors = λ _. (0, omega arith) }
+    go (erase-stopped e h) =
+        record { earlier = λ c. absurd (false≢true (sym c)); slots = λ _. (0, omega arith); sectors = λ c. absurd (false≢true (sym c)) }
+    go (erase-whole e h) = record { earlier = λ c. c; slots = λ _. (0, omega arith); sectors = λ _. (1, omega arith) }
+
+pub commit-full : (n a : ℕ) (t : List Raw) (m s : ℕ) (last : Answer) (state : State) (next : ℕ) (f : Flash) → s < n
+    → Whole f (commitFrom m n a s t last state next f .flash)
+commit-full n a t =
+    commit-trace Whole whole-none whole-on (λ s. Any) Any (λ s k new f _. program-full s k new f) (λ s f _. erase-full s f) n a t
+    (λ s u z. tt) (λ s i u z l. tt)
+
+pub append-full : (n s seq head next : ℕ) (r : Raw) (t : List Raw) (f : Flash) → s < n → head ≤ 256
+    → Whole f (appendOf n s seq head next r t f .flash)
+append-full n s seq head next r t f within high =
+    append-trace Whole whole-none whole-on (λ s. Any) Any (λ s k new f _. program-full s k new f) (λ s f _. erase-full s f) n s seq head
+    next r t f within high (λ i l u z. tt) (λ x u z. tt) (λ x i u z l. tt)
 
 -- ---- sectors
 -- of m sectors from s on, those that are not the one to avoid

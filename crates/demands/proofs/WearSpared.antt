@@ -35,7 +35,7 @@ use Rattle.decisions.specs.Performing.{writtenOutcome, appended, performed, dec
 use Rattle.log.specs.Calls.{isFirst, anchorCall, anchoredFirst, anchored, putAnchorOf, formatOn, formatOf}
 use Rattle.demands.specs.Healthy.{unlimited}
 use Rattle.demands.specs.Calls.{Call, outcomeOf}
-use Rattle.demands.specs.Wear.{Alike}
+use Rattle.demands.specs.Wear.{Alike, UnitsToSpare}
 use Rattle.demands.proofs.WearSparing.{freed, Uncut, chosen, commit-freed, append-uncut, append-freed}
 use Rattle.demands.proofs.CallsCourses.{commit-fresh}
 use Rattle.demands.proofs.WearCalls.{call-wears}
@@ -188,9 +188,9 @@ module _ (image : List ℕ) (log : Log) (plan : Plan) where
       → x .outcome image log (unlimited plan) ≡ freedOutcome (x .outcome image log plan))
       (λ typed known tag id d r k. keyed-freed known tag id d) anchor-freed format-freed
 
-  pub units-to-spare : (c : Call) → 73536 ≤ plan .units → Alike (outcomeOf c image log (unlimited plan)) (outcomeOf c image log plan)
-  units-to-spare c enough =
-      let same = call-freed c (call-wears image log plan c .spare enough) in
+  alike : (c : Call) → 73536 ≤ plan .units → Alike (outcomeOf c image log (unlimited plan)) (outcomeOf c image log plan)
+  alike c enough =
+      let same = call-freed c (call-wears c image log plan .spare enough) in
       record {
         answer = ap (λ (o : Outcome). o .answer) same;
         value = ap (λ (o : Outcome). o .value) same;
@@ -199,3 +199,6 @@ module _ (image : List ℕ) (log : Log) (plan : Plan) where
         programmed = ap (λ (o : Outcome). o .flash .programmed) same;
         erased = ap (λ (o : Outcome). o .flash .erased) same;
       }
+
+pub units-to-spare : UnitsToSpare
+units-to-spare c image log plan = alike image log plan c

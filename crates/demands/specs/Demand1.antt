@@ -151,3 +151,13 @@ pub record RefusesAsked (q : Asked) (log : Log) : Type 0 where
 -- ---- opening: "1 BadImage: open gives a Failed log with no records and next_seq 1"
 abbrev pub RefusesImage : List ℕ → Type 0
 RefusesImage image = sectorsIn (length image) ≡ 0 → openOf image ≡ record { answer = BadImage; log = logOf Failed 1 [] }
+
+-- ---- the demand: of every call with any arguments, on any image, log value and plan; of every question to any log value; of opening any image
+abbrev pub Demand1Calls : Type 0
+Demand1Calls = (c : Call) (image : List ℕ) (log : Log) (plan : Plan) → Refuses c image log plan
+
+abbrev pub Demand1Asked : Type 0
+Demand1Asked = (q : Asked) (log : Log) → RefusesAsked q log
+
+abbrev pub Demand1Open : Type 0
+Demand1Open = (image : List ℕ) → RefusesImage image

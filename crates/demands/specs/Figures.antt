@@ -22,7 +22,9 @@ use Rattle.decisions.specs.Seeds.{seedTable}
 use Rattle.decisions.specs.Outcomes.{Outcome}
 use Rattle.tries.specs.Tries.{spendDecision, setDecision, advanceDecision}
 use Rattle.demands.specs.Healthy.{healthy}
-use Rattle.demands.specs.Calls.{Call, put, put-value, put-anchor, format, spend, set-tries, advance-lamport, outcomeOf}
+use Rattle.demands.specs.Calls.{Call, put, put-value, put-anchor, format, spend, set-tries, advance-lamport, outcomeOf, Typed}
+use Rattle.demands.specs.Typed.{TypedSeeds}
+use Rattle.demands.specs.Sessions.{Made, Powered, now}
 use Rattle.demands.specs.Demand1.{knownIn}
 
 -- done, with this value and log, and so many bytes programmed and erased
@@ -65,3 +67,13 @@ FormatsWell seeds count image log =
     knownIn (format seeds count) ≡ true → log .state ≡ Unformatted → (log .«next_seq» ≡ seqMax → ⊥)
     → Reports 0 (logOf (Active 0 (log .«next_seq») (length (seedTable seeds count) + 1)) (log .«next_seq» + 1) (seedTable seeds count))
     (16 * (length (seedTable seeds count) + 1)) 4096 (outcomeOf (format seeds count) image log healthy)
+
+-- ---- the statements: on the log and image of any session while power lasts
+abbrev pub HealthyWrites : Type 0
+HealthyWrites =
+    (image : List ℕ) (ms : List Made) → Powered image ms → (c : Call) → Typed c → WritesWell c (now image ms .image) (now image ms .log)
+
+abbrev pub HealthyFormats : Type 0
+HealthyFormats =
+    (image : List ℕ) (ms : List Made) → Powered image ms → (seeds : List Seed) (count : ℕ) → TypedSeeds seeds
+    → FormatsWell seeds count (now image ms .image) (now image ms .log)

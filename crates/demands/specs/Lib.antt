@@ -12,3 +12,5 @@ pub mod PulledStick
 pub mod Wear
 pub mod Figures
 pub mod Leaves
+-- All of them.
+pub mod Demands

@@ -19,7 +19,7 @@ use Rattle.scan.specs.Opening.{openOf}
 use Rattle.reads.specs.Entering.{heldOf}
 use Rattle.tries.specs.Tries.{startOf}
 use Rattle.demands.specs.Calls.{Call, put, put-value, put-anchor, format, spend, set-tries, advance-lamport, Typed, NoChance}
-use Rattle.demands.specs.Sessions.{World, opened, Made, outcome, played}
+use Rattle.demands.specs.Sessions.{World, opened, Made, outcome, played, Powered, now}
 
 -- the log that is found after a call
 abbrev pub woken : World → Made → Log
@@ -124,3 +124,25 @@ pub record KeepsCount (image : List ℕ) (ms : List Made) (credential tries : �
   pub powered : Finds credential tries (begunIn credential ms) (openOf (played ms (opened image) .image) .log)
   pub pulled : (m : Made) → Typed (m .call) → sets credential (m .call) ≡ false → Lucky (played ms (opened image)) m
       → Finds credential tries (begunIn credential ms + begun credential (m .call)) (woken (played ms (opened image)) m)
+
+-- ---- the statements: after any session while power lasts, one call more
+abbrev pub PulledSpend : Type 0
+PulledSpend =
+    (image : List ℕ) (ms : List Made) → Powered image ms → (credential current : ℕ) → credential < 256 → current < 256 → (plan : Plan)
+    → KeepsTries (now image ms) credential current plan
+
+abbrev pub PulledSet : Type 0
+PulledSet =
+    (image : List ℕ) (ms : List Made) → Powered image ms → (credential new : ℕ) → credential < 256 → new < 256 → (plan : Plan)
+    → KeepsSet (now image ms) credential new plan
+
+abbrev pub PulledOther : Type 0
+PulledOther =
+    (image : List ℕ) (ms : List Made) → Powered image ms → (credential tries : ℕ) → Has credential tries (now image ms .log)
+    → (m : Made) → Typed (m .call) → LeavesTries (now image ms) m credential tries
+
+-- and the whole session, of which no call sets the credential
+abbrev pub PulledSession : Type 0
+PulledSession =
+    (image : List ℕ) (ms : List Made) → Powered image ms → (credential tries : ℕ) → Has credential tries (openOf image .log)
+    → NoneSets credential ms → KeepsCount image ms credential tries

@@ -3,6 +3,8 @@ use mathlib.Core.Path.{_≡_}
 use mathlib.Core.Bool.{false}
 use mathlib.Core.List.{List, [], _∷_}
 use Prim.Native.Nat.{ℕ}
+use lib.Dec.{T}
+use lib.Pow.{areBytes}
 use Rattle.flash.specs.declared.Plan.{Plan}
 use Rattle.records.specs.declared.Log.{Log}
 use Rattle.scan.specs.Opening.{openOf}
@@ -40,3 +42,13 @@ AllTyped (m ∷ ms) = Typed (m .call) × AllTyped ms
 unfoldable pub Lasts : List Made → World → Type 0
 Lasts [] w = Unit {0}
 Lasts (m ∷ ms) w = (outcome m w .flash .cut ≡ false) × Lasts ms (afterwards (outcome m w))
+
+-- "Open any image and make any calls on it .. while power lasts": the image is bytes, the arguments have their types, and no call was cut
+pub record Powered (image : List ℕ) (ms : List Made) : Type 0 where
+  pub bytes : T (areBytes image)
+  pub typed : AllTyped ms
+  pub lasts : Lasts ms (opened image)
+
+-- the image and log that such a session has come to
+abbrev pub now : List ℕ → List Made → World
+now image ms = played ms (opened image)

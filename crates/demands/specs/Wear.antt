@@ -1,9 +1,13 @@
 -- Wear: "Each call also reports bytes programmed and bytes erased; limited units fall by exactly their sum." "Any call: at most 8,000 and 65,536."
 use mathlib.Core.Path.{_≡_}
 use mathlib.Core.Bool.{true, false}
-use Prim.Native.Nat.{_+_, _≤_}
+use mathlib.Core.List.{List}
+use Prim.Native.Nat.{ℕ, _+_, _%_, _≤_}
 use Rattle.flash.specs.declared.Plan.{Plan}
+use Rattle.records.specs.declared.Log.{Log}
 use Rattle.decisions.specs.Outcomes.{Outcome}
+use Rattle.demands.specs.Healthy.{unlimited}
+use Rattle.demands.specs.Calls.{Call, outcomeOf}
 
 -- what a call that was made on this plan comes to
 pub record Wears (plan : Plan) (o : Outcome) : Type 0 where
@@ -14,6 +18,12 @@ pub record Wears (plan : Plan) (o : Outcome) : Type 0 where
   -- so a plan with these units, or without a limit, lasts through any call
   pub lasts : plan .limited ≡ false → o .flash .cut ≡ false
   pub spare : 73536 ≤ plan .units → o .flash .cut ≡ false
+  -- what an observer can see of a cut: one that was cut had limited units and left none
+  pub cut-limited : o .flash .cut ≡ true → plan .limited ≡ true
+  pub cut-spent : o .flash .cut ≡ true → o .flash .plan .units ≡ 0
+  -- and one that was not cut programmed and erased all that it began: whole slots, and whole sectors
+  pub whole-slots : o .flash .cut ≡ false → o .flash .programmed % 16 ≡ 0
+  pub whole-sectors : o .flash .cut ≡ false → o .flash .erased % 4096 ≡ 0
 
 -- "with unlimited power the figures are those of a plan with units to spare": everything but the plan
 pub record Alike (a b : Outcome) : Type 0 where
@@ -23,3 +33,12 @@ pub record Alike (a b : Outcome) : Type 0 where
   pub image : a .flash .image ≡ b .flash .image
   pub programmed : a .flash .programmed ≡ b .flash .programmed
   pub erased : a .flash .erased ≡ b .flash .erased
+
+-- ---- the statements: of every call, on any image, log and plan
+abbrev pub CallWears : Type 0
+CallWears = (c : Call) (image : List ℕ) (log : Log) (plan : Plan) → Wears plan (outcomeOf c image log plan)
+
+abbrev pub UnitsToSpare : Type 0
+UnitsToSpare =
+    (c : Call) (image : List ℕ) (log : Log) (plan : Plan) → 73536 ≤ plan .units
+    → Alike (outcomeOf c image log (unlimited plan)) (outcomeOf c image log plan)
