@@ -1,4 +1,4 @@
-"""Replay scripts to compare two programs with: cases of many kinds, each drawn from a seed.
+"""Replay scripts (docs/REPLAY.md) to compare two programs with: cases of many kinds, each drawn from a seed.
 
 A case is a list of script lines that sets image, plan and log itself, so that cases can follow each
 other in one script. It is made for an edge of document 01: its kind says which. Nothing here knows what
@@ -740,7 +740,7 @@ ODD_LINES = [
     "put 255 255 4294967295 4294967295", "load 255 1 255", "plan 18446744073709551615 1 4294967295",
     "image 18446744073709551615", "format 18446744073709551615",
 ]
-# Lines that cannot be read, by the words of the format.
+# Lines that cannot be read, by the words of docs/REPLAY.md.
 BAD_LINES = [
     "x", "Open", "opens", "open 1", "open now", "get", "get 256", "get -1", "get +1", "get 1 2", "get a", "get 1a", "get  1",
     " open", "\topen", "open\t", "open\r", "put 1 3 0", "put 1 3 0 0 0", "put 256 3 0 0", "put 1 256 0 0", "put 1 3 4294967296 0",
@@ -759,7 +759,7 @@ BAD_LINES = [
     "log active 0 1 2 next 2 count 32 " + " ".join(["00" * 12] * 33), "#" + "x" * 16384, "get 1" + " " * 16380,
     "saved", "restored", "dumps", "lists", "é", "open é", "bad line 1",
 ]
-# Scripts with a line on which the words of the format are silent, as README.md decides it.
+# Scripts with a corner of the format, as docs/REPLAY.md decides it.
 READY = ["image 4096", HEALTHY, "open"]
 CORNERS = [
     ["open"], ["restore", "open", "list", "dump"], ["put 1 3 0 0", "get 1", "needs_migration"], ["dump"],
@@ -781,7 +781,7 @@ def texts(d, whole):
 
 
 def corners(d, whole):
-    """Corners of the script format that are decided in README.md: the end of their script."""
+    """Corners of the script format that are decided in docs/REPLAY.md: the end of their script."""
     return [*d.turn(CORNERS), "open", "x"]
 
 

@@ -1,5 +1,5 @@
 //! Runs a replay script on the unchanged Rust: reads the script from standard input and writes what
-//! each call answered to standard output. The format is that of the program `replay`.
+//! each call answered to standard output. The format is that of the program `replay`: docs/REPLAY.md.
 
 mod calls;
 

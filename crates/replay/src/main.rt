@@ -1,5 +1,5 @@
 // The program `replay`: plays the script on its standard input call by call, and writes what each answered, to compare with the Rust.
-// The input comes in chunks; what a chunk has of a line without its end waits for the next.
+// The format: docs/REPLAY.md. The input comes in chunks; what a chunk has of a line without its end waits for the next.
 
 mod output; // text to standard output by way of a buffer
 mod answers; // the fields of an answer

@@ -1,5 +1,5 @@
 // A script of calls, line by line: its words and numbers, the lines that set something, the input in chunks.
-// A place in a line is any number: what is not there is refused.
+// The format: docs/REPLAY.md. A place in a line is any number: what is not there is refused.
 
 mod words; // where a word ends, whether two texts are the same, a word that is expected
 mod decimals; // a number in decimal, within a limit
