@@ -3,7 +3,7 @@ use mathlib.Core.Path.{_≡_, refl, sym, ap, subst, _∙_}
 use mathlib.Core.Bool.{true}
 use mathlib.Core.List.{List, [], _∷_}
 use Prim.Native.Nat.{ℕ}
-use lib.ListN.{getD}
+use lib.ListN.{getD, replicate}
 use Rattle.basics.specs.Lists.{same, allAre}
 use Rattle.basics.specs.Little.{leBytes, leNumber}
 use Rattle.ids.specs.Ids.{placeFrom, isMonotonic}
@@ -11,7 +11,7 @@ use Rattle.ids.specs.Counters.{remainingOf, failedOf}
 use Rattle.crc.specs.Register.{turn, turns, eat, feed, finished, crc32Of}
 use Rattle.codec.specs.Slots.{headerSlot, headerOf, crcUnder, slotOf, rawOf, decodedWith, decoded}
 use Rattle.flash.specs.Image.{sectorsIn, slotAt, sectorAt, withSlot, withSector}
-use Rattle.flash.specs.Run.{landed, program, erase}
+use Rattle.flash.specs.Run.{landed, program, blanked, erase}
 use Rattle.records.specs.declared.Log.{Log}
 use Rattle.records.specs.Table.{placeOf, holds, joined, falls, absorbed}
 use Rattle.scan.specs.Choosing.{bestFrom}
@@ -33,12 +33,12 @@ use Rattle.demands.specs.Sessions.{World, opened, Made, outcome, Lasts}
 use Rattle.demands.specs.PulledStick.{triesIn, Has}
 use Rattle.witnesses.specs.Sticks.{pin, pulledAfter, blankStick, newStick, fullStick, unlucky, unluckyStick, logWith, unspent, spent}
 use Rattle.witnesses.specs.Sticks.{torn, formatting, spendOn, refusals}
-use Rattle.witnesses.specs.Computed.{numbers, Pulled, Spends, Computed}
+use Rattle.witnesses.specs.Computed.{numbers, Pulled, Spends, ends, Computed}
 
 -- ---- the sticks opened
 pub record Opens : Type 0 where
   pub new : openOf newStick .log ≡ logWith 1 2 unspent
-  pub full : openOf fullStick .log ≡ logWith 1 256 unspent
+  pub full : openOf fullStick .log ≡ logWith 2 256 unspent
   pub chance : openOf unluckyStick .log ≡ logWith unlucky 2 unspent
 
 pub opens : Opens
@@ -51,26 +51,36 @@ opens = record { new = refl; full = refl; chance = refl }
 abbrev tries : List ℕ → ℕ
 tries image = triesIn pin 3 (openOf image .log)
 
--- the slots of the second sector: its record whole, and then its header up to byte j
+-- the full stick with n bytes of its second sector erased
+abbrev emptied : ℕ → List ℕ
+emptied n = withSector 1 (blanked n (sectorAt fullStick 1)) fullStick
+
+-- then the slots of that sector: its record whole, and its header up to byte j
 abbrev headed : ℕ → List ℕ
-headed j = torn 1 0 j (headerSlot 2) (withSlot 1 1 (slotOf 2 spent) fullStick)
+headed j = torn 1 0 j (headerSlot 3) (withSlot 1 1 (slotOf 3 spent) (emptied 4096))
 
 pub record OpensTorn : Type 0 where
   pub append : tries (torn 0 2 5 (slotOf 1 spent) newStick) ≡ 3
-  pub rec : tries (torn 1 1 7 (slotOf 2 spent) fullStick) ≡ 3
+  pub erase : tries (emptied 100) ≡ 3
+  pub rec : tries (torn 1 1 7 (slotOf 3 spent) (emptied 4096)) ≡ 3
   pub chance : openOf (torn 0 2 8 (slotOf unlucky spent) unluckyStick) .log ≡ logWith unlucky 3 (rawOf (cutAt 8 (slotOf unlucky spent)))
 
 pub opens-torn : OpensTorn
 unfolding newStick fullStick unluckyStick heldOf startOf remainingOf placeOf sectorsIn allAre placeFrom joined openOf scanOf bestFrom
-    readFrom headFrom decoded decodedWith absorbed falls isMonotonic headerOf slotAt withSlot same slotOf crcUnder crc32Of feed eat turns
-    turn finished leBytes leNumber headerSlot holds
-opens-torn = record { append = refl; rec = refl; chance = refl }
+    readFrom headFrom decoded decodedWith absorbed falls isMonotonic headerOf slotAt withSlot sectorAt withSector same slotOf crcUnder
+    crc32Of feed eat turns turn finished leBytes leNumber headerSlot holds
+opens-torn = record { append = refl; erase = refl; rec = refl; chance = refl }
 
 pub opens-headed : (tries (headed 5) ≡ 3) × (tries (headed 15) ≡ 3)
 unfolding fullStick heldOf startOf remainingOf placeOf sectorsIn allAre placeFrom joined openOf scanOf bestFrom readFrom headFrom decoded
-    decodedWith absorbed falls isMonotonic headerOf slotAt withSlot same slotOf crcUnder crc32Of feed eat turns turn finished leBytes
-    leNumber headerSlot holds
+    decodedWith absorbed falls isMonotonic headerOf slotAt withSlot sectorAt withSector same slotOf crcUnder crc32Of feed eat turns turn
+    finished leBytes leNumber headerSlot holds
 opens-headed = (refl, refl)
+
+-- the second sector's first slot and last, before and after a hundred bytes of it are erased
+pub ends-are : (ends fullStick ≡ headerSlot 1 ∷ replicate 16 0 ∷ []) × (ends (emptied 100) ≡ replicate 16 0xFF ∷ replicate 16 0 ∷ [])
+unfolding fullStick slotAt sectorAt withSector slotOf crcUnder crc32Of feed eat turns turn finished leBytes headerSlot
+ends-are = (refl, refl)
 
 -- ---- the calls
 abbrev world : List ℕ → Log → World
@@ -93,13 +103,13 @@ pub record Called : Type 0 where
   pub lasts : Lasts refusals (world newStick (logWith 1 2 unspent))
   pub answers : numbers refusals (world newStick (logWith 1 2 unspent)) ≡ 0 ∷ 6 ∷ 0 ∷ []
   pub appends : figures newStick (logWith 1 2 unspent) ≡ 3 ∷ 16 ∷ 0 ∷ []
-  pub commits : figures fullStick (logWith 1 256 unspent) ≡ 3 ∷ 32 ∷ 4096 ∷ []
+  pub commits : figures fullStick (logWith 2 256 unspent) ≡ 3 ∷ 32 ∷ 4096 ∷ []
   pub in-append : Cuts newStick (logWith 1 2 unspent) (spendOn (pulledAfter 5)) (torn 0 2 5 (slotOf 1 spent) newStick)
-  pub in-erase : Cuts fullStick (logWith 1 256 unspent) (spendOn (pulledAfter 100)) fullStick
-  pub in-record : Cuts fullStick (logWith 1 256 unspent) (spendOn (pulledAfter 4103)) (torn 1 1 7 (slotOf 2 spent) fullStick)
-  pub in-header : Cuts fullStick (logWith 1 256 unspent) (spendOn (pulledAfter 4117)) (headed 5)
-  pub at-last : Cuts fullStick (logWith 1 256 unspent) (spendOn (pulledAfter 4127)) (headed 15)
-  pub taken : triesIn pin 3 (outcome (spendOn (pulledAfter 4128)) (world fullStick (logWith 1 256 unspent)) .log) ≡ 2
+  pub in-erase : Cuts fullStick (logWith 2 256 unspent) (spendOn (pulledAfter 100)) (emptied 100)
+  pub in-record : Cuts fullStick (logWith 2 256 unspent) (spendOn (pulledAfter 4103)) (torn 1 1 7 (slotOf 3 spent) (emptied 4096))
+  pub in-header : Cuts fullStick (logWith 2 256 unspent) (spendOn (pulledAfter 4117)) (headed 5)
+  pub at-last : Cuts fullStick (logWith 2 256 unspent) (spendOn (pulledAfter 4127)) (headed 15)
+  pub taken : triesIn pin 3 (outcome (spendOn (pulledAfter 4128)) (world fullStick (logWith 2 256 unspent)) .log) ≡ 2
   pub by-chance : Cuts unluckyStick (logWith unlucky 2 unspent) (spendOn (pulledAfter 8)) (torn 0 2 8 (slotOf unlucky spent) unluckyStick)
   pub after : outcome (spendOn healthy) (world unluckyStick (logWith unlucky 2 unspent)) .log ≡ logWith unlucky 3 spent
 
@@ -161,11 +171,16 @@ computed = record {
   appends = spends newStick _ 16 0 (opens .new) (called .appends);
   commits = spends fullStick _ 32 4096 (opens .full) (called .commits);
   in-append = pulled newStick _ _ _ 3 (opens .new) (called .in-append) (opens-torn .append);
-  in-erase = pulled fullStick _ _ _ 3 (opens .full) (called .in-erase) (ap (triesIn pin 3) (opens .full) ∙ remaining .all 1 256);
+  in-erase = pulled fullStick _ _ _ 3 (opens .full) (called .in-erase) (opens-torn .erase);
   in-record = pulled fullStick _ _ _ 3 (opens .full) (called .in-record) (opens-torn .rec);
   in-header = pulled fullStick _ _ _ 3 (opens .full) (called .in-header) (opens-headed .0);
   at-last = pulled fullStick _ _ _ 3 (opens .full) (called .at-last) (opens-headed .1);
   taken = ap (λ (l : Log). triesIn pin 3 (outcome (spendOn (pulledAfter 4128)) (world fullStick l) .log)) (opens .full) ∙ called .taken;
+  older-copy = ends-are .0;
+  half-erased =
+      ap (λ (l : Log). ends (outcome (spendOn (pulledAfter 100)) (world fullStick l) .flash .image)) (opens .full)
+      ∙ ap ends (called .in-erase .leaves)
+      ∙ ends-are .1;
   by-chance = pulled unluckyStick _ _ _ 0 (opens .chance) (called .by-chance) (ap (triesIn pin 3) (opens-torn .chance) ∙ remaining .none unlucky 3);
   before = ap (triesIn pin 3) (opens .chance) ∙ remaining .all unlucky 2;
   after =

@@ -3,7 +3,10 @@ use mathlib.Core.Path.{_≡_}
 use mathlib.Core.Bool.{true}
 use mathlib.Core.List.{List, [], _∷_}
 use Prim.Native.Nat.{ℕ}
+use lib.ListN.{replicate}
 use Rattle.basics.specs.Answers.{numberOf}
+use Rattle.codec.specs.Slots.{headerSlot}
+use Rattle.flash.specs.Image.{slotAt}
 use Rattle.demands.specs.Healthy.{healthy}
 use Rattle.demands.specs.Sessions.{World, opened, Made, outcome, afterwards, Lasts}
 use Rattle.demands.specs.PulledStick.{triesIn, Has, woken}
@@ -25,6 +28,10 @@ pub record Spends (image : List ℕ) (programmed erased : ℕ) : Type 0 where
   pub programmed-is : outcome (spendOn healthy) (opened image) .flash .programmed ≡ programmed
   pub erased-is : outcome (spendOn healthy) (opened image) .flash .erased ≡ erased
 
+-- the first slot of an image's second sector, and the last
+abbrev pub ends : List ℕ → List (List ℕ)
+ends image = slotAt image 1 0 ∷ slotAt image 1 255 ∷ []
+
 pub record Computed : Type 0 where
   -- a format makes the new stick, which opens with three tries
   pub formats : outcome (formatting healthy) (opened blankStick) .flash .image ≡ newStick
@@ -45,6 +52,9 @@ pub record Computed : Type 0 where
   pub at-last : Pulled fullStick (spendOn (pulledAfter 4127)) 3
   -- with power for all of it one try is taken
   pub taken : triesIn pin 3 (outcome (spendOn (pulledAfter 4128)) (opened fullStick) .log) ≡ 2
+  -- the cut erase changed bytes and left others: the older copy's header is erased, and its last slot stands as it was
+  pub older-copy : ends fullStick ≡ headerSlot 1 ∷ replicate 16 0 ∷ []
+  pub half-erased : ends (outcome (spendOn (pulledAfter 100)) (opened fullStick) .flash .image) ≡ replicate 16 0xFF ∷ replicate 16 0 ∷ []
   -- a spend that is cut just where its slot matches by chance: three tries were held, two should be left
   pub by-chance : Pulled unluckyStick (spendOn (pulledAfter 8)) 0
   pub before : triesIn pin 3 (opened unluckyStick .log) ≡ 3

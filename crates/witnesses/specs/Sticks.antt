@@ -41,26 +41,34 @@ unspent = counterRecord pin three
 abbrev pub spent : Raw
 spent = counterRecord pin (record { total = 1; «at_reset» = 0; allowance = 3 })
 
--- a sector with this number, the PIN's counter, and erased bytes behind it
-abbrev sector : ℕ → ℕ → List ℕ
-sector seq erased = headerSlot seq ++ (slotOf seq unspent ++ replicate erased 0xFF)
+-- an older one, with five tries: an opening that took it for the newest would be seen
+abbrev older : Raw
+older = counterRecord pin (record { total = 0; «at_reset» = 0; allowance = 5 })
+
+-- a sector with this number, a record, and erased bytes behind it
+abbrev sector : ℕ → Raw → ℕ → List ℕ
+sector seq r erased = headerSlot seq ++ (slotOf seq r ++ replicate erased 0xFF)
+
+-- one that is full: its last slot is used, if only by zeros
+abbrev fullSector : ℕ → Raw → List ℕ
+fullSector seq r = sector seq r 4048 ++ replicate 16 0
 
 unfoldable pub blankStick : List ℕ
 blankStick = replicate 4096 0xFF
 
 unfoldable pub newStick : List ℕ
-newStick = sector 1 4064
+newStick = sector 1 unspent 4064
 
--- two sectors: the last slot of the first is used, if only by zeros, and the second is erased
+-- two sectors: the first is active and full, and the second, which was full before it, has an older copy of the log
 unfoldable pub fullStick : List ℕ
-fullStick = sector 1 4048 ++ (replicate 16 0 ++ replicate 4096 0xFF)
+fullStick = fullSector 2 unspent ++ fullSector 1 older
 
 -- under this number of a sector the first spend, cut after eight bytes, carries a matching checksum by chance
 abbrev pub unlucky : ℕ
 unlucky = 3525023928
 
 unfoldable pub unluckyStick : List ℕ
-unluckyStick = sector unlucky 4064
+unluckyStick = sector unlucky unspent 4064
 
 -- a log with one record: the first sector under this number is active, and the next number is one more
 abbrev pub logWith : ℕ → ℕ → Raw → Log
