@@ -12,6 +12,7 @@ use Rattle.flash.specs.Image.{withSlot}
 use Rattle.records.specs.declared.State.the-variants.{Active}
 use Rattle.records.specs.declared.Log.{Log}
 use Rattle.records.specs.Logs.{logOf}
+use Rattle.decisions.specs.declared.seeds.Seed.{Seed}
 use Rattle.demands.specs.Chance.{cutAt}
 use Rattle.demands.specs.Calls.{Call, format, spend, advance-lamport}
 use Rattle.demands.specs.Sessions.{Made}
@@ -79,8 +80,16 @@ abbrev pub torn : ℕ → ℕ → ℕ → List ℕ → List ℕ → List ℕ
 torn s k j slot image = withSlot s k (cutAt j slot) image
 
 -- ---- calls
+-- a place of zeros
+abbrev noSeed : Seed
+noSeed = record { credential = 0; state = record { total = 0; «at_reset» = 0; allowance = 0 } }
+
+-- "The seeds come as eight places by value with a count": the PIN's in the first of them
+abbrev pub pinSeeds : List Seed
+pinSeeds = record { credential = pin; state = three } ∷ replicate 7 noSeed
+
 abbrev pub formatting : Plan → Made
-formatting plan = made (format (record { credential = pin; state = three } ∷ []) 1) plan
+formatting plan = made (format pinSeeds 1) plan
 
 abbrev pub spendOn : Plan → Made
 spendOn plan = made (spend pin 3) plan
