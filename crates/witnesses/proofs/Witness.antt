@@ -19,12 +19,10 @@ use Rattle.reads.specs.Entering.{heldOf}
 use Rattle.tries.specs.Tries.{startOf}
 use Rattle.demands.specs.Chance.{cutAt, ChanceMatch}
 use Rattle.demands.specs.Calls.{NoChance}
-use Rattle.demands.specs.Sessions.{opened, played, AllTyped, Lasts}
+use Rattle.demands.specs.Sessions.{opened, played, AllTyped, Lasts, Powered}
 use Rattle.demands.specs.Demand3.{FindsAgain}
 use Rattle.demands.specs.PulledStick.{woken, Lucky, triesIn, NoneSets, KeepsCount}
-use Rattle.demands.proofs.Demand3.{demand-3-powered}
-use Rattle.demands.proofs.PulledStickSpends.{pulled-stick}
-use Rattle.demands.proofs.PulledStick.{pulled-session}
+use Rattle.demands.proofs.Demands.{demands}
 use Rattle.witnesses.specs.Sticks.{pin, newStick, fullStick, spent, spendOn, refusals}
 use Rattle.witnesses.proofs.Computed.{opens, computed}
 
@@ -49,16 +47,23 @@ none-typed : AllTyped []
 unfolding AllTyped
 none-typed = tt
 
+-- the premises of a session: met through refusals, and where nothing was called yet
+through-refusals : Powered newStick refusals
+through-refusals = record { bytes = bytes .new; typed = typed; lasts = computed .lasts }
+
+just-opened : (stick : List ℕ) → T (areBytes stick) → Powered stick []
+just-opened stick b = record { bytes = b; typed = none-typed; lasts = none-made stick }
+
 -- ---- power lasts through refusals: what is held is found, and of two spends that were begun at most two tries are gone
 none-sets : NoneSets pin refusals
 unfolding refusals NoneSets
 none-sets = (refl, (refl, (refl, tt)))
 
 pub keeps-count : KeepsCount newStick refusals pin 3
-keeps-count = pulled-session newStick (bytes .new) refusals typed (computed .lasts) pin 3 (computed .holds) none-sets
+keeps-count = demands .session newStick refusals through-refusals pin 3 (computed .holds) none-sets
 
 pub finds-again : FindsAgain (played refusals (opened newStick))
-finds-again = demand-3-powered newStick (bytes .new) refusals typed (computed .lasts)
+finds-again = demands .powered newStick refusals through-refusals
 
 -- ---- no chance match
 -- of the record that the new stick's first spend writes, under the sector's number 1
@@ -101,10 +106,9 @@ module _ (plan : Plan) where
 
   pub new-wakes : KeepsOrTakes newStick
   unfolding played
-  new-wakes = pulled-stick newStick (bytes .new) [] none-typed (none-made newStick) pin 3 (omega arith) (omega arith) plan .either (new-lucky plan)
+  new-wakes = demands .spend newStick [] (just-opened newStick (bytes .new)) pin 3 (omega arith) (omega arith) plan .either (new-lucky plan)
 
   pub full-wakes : KeepsOrTakes fullStick
   unfolding played
   full-wakes =
-      pulled-stick fullStick (bytes .full) [] none-typed (none-made fullStick) pin 3 (omega arith) (omega arith) plan .either
-      (full-lucky plan)
+      demands .spend fullStick [] (just-opened fullStick (bytes .full)) pin 3 (omega arith) (omega arith) plan .either (full-lucky plan)
