@@ -1,4 +1,4 @@
--- IEEE 802.3, clause 3.2.9: the CRC of a frame, as a division of polynomials over GF(2).
+-- IEEE 802.3, clause 3.2.9: the CRC of a frame, as a division of polynomials over GF(2). Its sentences are quoted from memory.
 -- A polynomial is the list of its coefficients, the highest degree first: bits in the order in which they are sent.
 use mathlib.Core.Path.{_≡_}
 use mathlib.Core.Bool.{Bool, false, not, xor, _&&_, _||_}
@@ -63,7 +63,8 @@ message (b ∷ bs) = bits 8 b ++ message bs
 unfoldable pub dividend : Poly → Poly
 dividend m = map not (take 32 (m ++ zeros 32)) ++ drop 32 (m ++ zeros 32)
 
--- r is the CRC of the message m
+-- r is the CRC of the message m, its x^31 first, as it is sent: "The bits of the CRC are thus transmitted in the order x^31, x^30, .. x^1, x^0."
+-- So a number is the CRC where its bits, lowest first, are r: `IsCheck m (bits 32 n)`.
 pub record IsCheck (m r : Poly) : Type 0 where
   -- c) "and divided by G(x), producing a remainder R(x) of degree ≤ 31."
   pub quotient : Poly
