@@ -45,6 +45,7 @@ fn anchor(format_gen: u16, head_seq: u64, head_slot: u16) -> Anchor {
     }
 }
 
+// Cases 1 to 5, each as the functions give it.
 fn starred() {
     slot_line(b"header 1: ", codec::encode_header(1));
     io::write_all(1, b"crc of 123456789: ");
@@ -178,6 +179,24 @@ fn user_pin() -> [Seed; 8] {
     seeds
 }
 
+// Case 6: "Lamport put of 4 over 5: 9. SignatureCounter 4 over 5: accepted." The listing shows what is held then.
+fn four_over_five() {
+    let mut image = [0xFFu8; 8192];
+    let blank = records::empty(State::Unformatted, 1);
+    let d = log::format(&mut image, blank, calm(), user_pin(), 0);
+    let l = call_line(b"format, no seeds: ", &image, d);
+    let d = log::put_value(&mut image, l, calm(), ids::LAMPORT, 5);
+    let l = call_line(b"lamport 5: ", &image, d);
+    let d = log::put_value(&mut image, l, calm(), ids::LAMPORT, 4);
+    let l = call_line(b"lamport 4 over 5: ", &image, d);
+    let d = log::put_value(&mut image, l, calm(), ids::SIGNATURE_COUNTER, 5);
+    let l = call_line(b"signature counter 5: ", &image, d);
+    let d = log::put_value(&mut image, l, calm(), ids::SIGNATURE_COUNTER, 4);
+    let _ = call_line(b"signature counter 4 over 5: ", &image, d);
+    listed(&image);
+}
+
+// Case 7: "32 keys: a known key is written, a new one gets 8."
 fn full_table() {
     let mut image = [0xFFu8; 8192];
     let log = crowded(33);
@@ -187,6 +206,7 @@ fn full_table() {
     let _ = call_line(b"32 keys, a new one: ", &image, d);
 }
 
+// Case 7: "Head 255 appends, head 256 rotates."
 fn full_sector() {
     let mut image = [0xFFu8; 8192];
     let d = tries::spend(&mut image, crowded(255), calm(), 1, 0);
@@ -195,6 +215,7 @@ fn full_sector() {
     let _ = call_line(b"head 256: ", &image, d);
 }
 
+// Case 7: "Two refused programs: success in the third slot; three: 6."
 fn refused_programs() {
     let mut image = [0xFFu8; 8192];
     let d = tries::spend(&mut image, crowded(33), refusing(2), 1, 0);
@@ -203,6 +224,7 @@ fn refused_programs() {
     let _ = call_line(b"three: ", &image, d);
 }
 
+// Case 8: "Blank 8,192 bytes, format user PIN with 3, one spend (answers 3)", and the listing.
 fn one_spend() {
     let mut image = [0xFFu8; 8192];
     let o = scan::open(&image);
@@ -257,6 +279,7 @@ fn refused() {
 
 fn main() {
     starred();
+    four_over_five();
     full_table();
     full_sector();
     refused_programs();
