@@ -1,6 +1,7 @@
 // Runs the cases of "Worked by hand" through the code. Of the starred ones it writes a slot of a sector with seq 1 in
 // hexadecimal, or a number; of each call its answer and value, the bytes it programmed and erased, the log that it
-// handed back, and the checksum of the image, which tells whether a byte changed.
+// handed back, and the checksum of the image. That tells whether a slot was written, and where, but not what it holds:
+// two slots with their own CRC in them look alike to a CRC of the whole. What is held stands in the listings.
 use codec::Raw;
 use decisions::Done;
 use decisions::Seed;
