@@ -1,7 +1,6 @@
 // Runs the cases of "Worked by hand" through the code. Of the starred ones it writes a slot of a sector with seq 1 in
-// hexadecimal, or a number; of each call its answer and value, the bytes it programmed and erased, the log that it
-// handed back, and the checksum of the image. That tells whether a slot was written, and where, but not what it holds:
-// two slots with their own CRC in them look alike to a CRC of the whole. What is held stands in the listings.
+// hexadecimal, or a number; of each call its answer and value, the bytes it programmed and erased, the log that it handed
+// back, and two checksums of the image: of all of it, which shows where sealed slots stand, and of what the slots hold.
 use codec::Raw;
 use decisions::Done;
 use decisions::Seed;
@@ -118,6 +117,21 @@ fn log_words(log: Log) {
     number_word(log.count as u64);
 }
 
+// The checksum of the first twelve bytes of each slot. One of whole slots doesn't see what they hold, since each ends in its own.
+fn contents(image: &[u8]) -> u32 {
+    let mut s = crc::start();
+    let mut a: usize = 0;
+    while a < image.len() {
+        if image.len() - a < 16 {
+            break;
+        }
+        let e = a + 12;
+        s = crc::update(s, &image[a..e]);
+        a += 16;
+    }
+    crc::finish(s)
+}
+
 // What a call did, on a line; the log is handed on.
 fn call_line(label: &[u8], image: &[u8], d: Done) -> Log {
     io::write_all(1, label);
@@ -130,6 +144,8 @@ fn call_line(label: &[u8], image: &[u8], d: Done) -> Log {
     log_words(log);
     io::write_all(1, b" image ");
     io::print_hex(1, crc::crc32(image) as u64, 8);
+    io::write_all(1, b" ");
+    io::print_hex(1, contents(image) as u64, 8);
     io::write_all(1, b"\n");
     log
 }
