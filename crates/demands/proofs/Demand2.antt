@@ -2,7 +2,7 @@
 use mathlib.Core.Path.{_≡_, sym, ap, _∙_}
 use mathlib.Core.Bool.{false}
 use Rattle.crc.proofs.IeeeBits.{number, number-bits}
-use Rattle.crc.proofs.IeeeCheck.{check-unique}
+use Rattle.crc.proofs.IeeeCheck.{check-unique, crc-check}
 use Rattle.demands.specs.Demand2.{Demand2}
 
 pub demand-2 : Demand2
@@ -15,7 +15,8 @@ demand-2 = record {
   attempts = λ image log plan credential current seen x y a b i. ((a .answered ∙ sym (b .answered)) i, (a .left ∙ sym (b .left)) i);
   steps = λ o x y a b i. ((a false .shown ∙ sym (b false .shown)) i, (a false .left ∙ sym (b false .left)) i);
   writes = λ o x y a b i. ((a false .shown ∙ sym (b false .shown)) i, (a false .left ∙ sym (b false .left)) i);
-  listings = λ image buffer x y a b i. ((a .left ∙ sym (b .left)) i, (a .past ∙ sym (b .past)) i);
+  puts = λ before at text x y a b i. ((a .left ∙ sym (b .left)) i, (a .past ∙ sym (b .past)) i);
   checksums = λ bytes r q a b.
       sym (number-bits 32 r (a .0)) ∙ ap number (check-unique _ _ _ (a .1) (b .1)) ∙ number-bits 32 q (b .0);
+  checked = crc-check;
 }

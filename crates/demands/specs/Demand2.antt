@@ -4,7 +4,9 @@ use mathlib.Core.Path.{_≡_}
 use mathlib.Core.Bool.{Bool}
 use mathlib.Core.List.{List}
 use Prim.Native.Nat.{ℕ, _<_, _^_}
-use lib.ListN.{length}
+use lib.Dec.{T}
+use lib.Pow.{areBytes}
+use Rattle.crc.specs.Register.{crc32Of}
 use Rattle.crc.specs.Ieee.{IsCheck, message, bits}
 use Rattle.flash.specs.declared.Plan.{Plan}
 use Rattle.flash.specs.Run.{Stepped}
@@ -16,7 +18,6 @@ use Rattle.sectors.specs.Shown.{ShowsStep, ShowsWrote}
 use Rattle.decisions.specs.declared.outcomes.Done.{Done}
 use Rattle.decisions.specs.Outcomes.{Outcome, ShowsDone}
 use Rattle.text.specs.Text.{Puts}
-use Rattle.list.specs.Listing.{listingIn}
 use Rattle.host.specs.declared.attempts.Attempted.{Attempted}
 use Rattle.host.specs.LentFlash.{ShowsStepLent}
 use Rattle.host.specs.LentCalls.{ShowsDoneLent}
@@ -37,8 +38,9 @@ pub record Demand2 : Type 0 where
   -- the steps of writing, whose contracts hold for any cut
   pub steps : (o : Bool → Stepped) → Determines (λ (x : Step × List ℕ). (cut : Bool) → ShowsStep (o cut) (x .0) (x .1))
   pub writes : (o : Bool → Written) → Determines (λ (x : Wrote × List ℕ). (cut : Bool) → ShowsWrote (o cut) (x .0) (x .1))
-  -- the listing: the buffer, and the length
-  pub listings : (image buffer : List ℕ)
-      → Determines (λ (x : List ℕ × ℕ). Puts buffer 0 (listingIn (length buffer) image) (x .0) (x .1))
+  -- the listing, and any text put into a buffer: the buffer, and the place behind the text
+  pub puts : (before : List ℕ) (at : ℕ) (text : List ℕ) → Determines (λ (x : List ℕ × ℕ). Puts before at text (x .0) (x .1))
   -- the checksum in the words of the standard: a number of 32 bits
   pub checksums : (bytes : List ℕ) → Determines (λ (r : ℕ). (r < 2 ^ 32) × IsCheck (message bytes) (bits 32 r))
+  -- "the checksum is proved against the CRC-32 of IEEE 802.3"
+  pub checked : (bytes : List ℕ) → T (areBytes bytes) → IsCheck (message bytes) (bits 32 (crc32Of bytes))

@@ -44,7 +44,7 @@ const TOTAL_MAX: u32 = 4_294_967_295;
 pub const ANCHOR_SEQ_MAX: u64 = 281_474_976_710_655;
 
 // Where a number stands in the table of credentials.
-pub enum Place {
+enum Place {
     At(usize),
     Unknown,
 }
