@@ -18,10 +18,10 @@ pub record Demands : Type 0 where
   pub powered : Demand3Powered
   pub cut : Demand3Cut
   -- the pulled stick
-  pub spend : PulledSpend
-  pub set : PulledSet
-  pub other : PulledOther
-  pub session : PulledSession
+  pub stick-spend : PulledSpend
+  pub stick-set : PulledSet
+  pub stick-other : PulledOther
+  pub stick-session : PulledSession
   -- "limited units fall by exactly their sum"; "with unlimited power the figures are those of a plan with units to spare"
   pub wears : CallWears
   pub spare : UnitsToSpare

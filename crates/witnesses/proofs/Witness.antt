@@ -60,7 +60,7 @@ unfolding refusals NoneSets
 none-sets = (refl, (refl, (refl, tt)))
 
 pub keeps-count : KeepsCount newStick refusals pin 3
-keeps-count = demands .session newStick refusals through-refusals pin 3 (computed .holds) none-sets
+keeps-count = demands .stick-session newStick refusals through-refusals pin 3 (computed .holds) none-sets
 
 pub finds-again : FindsAgain (played refusals (opened newStick))
 finds-again = demands .powered newStick refusals through-refusals
@@ -106,9 +106,9 @@ module _ (plan : Plan) where
 
   pub new-wakes : KeepsOrTakes newStick
   unfolding played
-  new-wakes = demands .spend newStick [] (just-opened newStick (bytes .new)) pin 3 (omega arith) (omega arith) plan .either (new-lucky plan)
+  new-wakes = demands .stick-spend newStick [] (just-opened newStick (bytes .new)) pin 3 (omega arith) (omega arith) plan .either (new-lucky plan)
 
   pub full-wakes : KeepsOrTakes fullStick
   unfolding played
   full-wakes =
-      demands .spend fullStick [] (just-opened fullStick (bytes .full)) pin 3 (omega arith) (omega arith) plan .either (full-lucky plan)
+      demands .stick-spend fullStick [] (just-opened fullStick (bytes .full)) pin 3 (omega arith) (omega arith) plan .either (full-lucky plan)
