@@ -1,9 +1,11 @@
-// The calls that can write: each reads its numbers from the line, calls the library, and says what it answered.
-// A line that isn't the call or can't be read has `ok` false.
+// What can write: each line reads its numbers, makes the request on a plan in its place, and says what was answered.
+// A line that isn't one of these or can't be read has `ok` false.
 use basics::Answer;
 use decisions::Done;
 use decisions::Seed;
 use flash::Plan;
+use host::Kind;
+use host::Request;
 use ids::Anchor;
 use ids::CounterState;
 use records::Log;
@@ -25,7 +27,7 @@ pub struct Work {
     pub done: Done,
 }
 
-// The calls that can write.
+// What can write.
 enum Call {
     Put,
     PutValue,
@@ -34,6 +36,9 @@ enum Call {
     Spend,
     Set,
     AdvanceLamport,
+    Program,
+    Erase,
+    Attempt,
     Other,
 }
 
@@ -57,6 +62,24 @@ fn unwritten(log: Log, plan: Plan) -> Work {
         ok: false,
         value: Given::Dash,
         done: done,
+    }
+}
+
+// A request on a plan in its place. The plan handed back is the one that a second request, which asks nothing, finds there.
+fn in_place(image: &mut [u8], log: Log, plan: Plan, request: Request) -> Done {
+    let turns = host::in_turn(image, log, plan, request, Request::of(Kind::Nothing));
+    let first = turns.first;
+    let second = turns.second;
+    let answer = first.answer;
+    let left = second.plan;
+    let next = first.log;
+    Done {
+        answer: answer,
+        value: first.value,
+        programmed: first.programmed,
+        erased: first.erased,
+        plan: left,
+        log: next,
     }
 }
 
@@ -90,7 +113,11 @@ fn put(line: &[u8], e: usize, image: &mut [u8], log: Log, plan: Plan) -> Work {
         at_reset: x[3] as u32,
         allowance: x[1] as u8,
     };
-    quiet(log::put(image, log, plan, x[0] as u8, new))
+    let put = Kind::Put {
+        credential: x[0] as u8,
+        new: new,
+    };
+    quiet(in_place(image, log, plan, Request::of(put)))
 }
 
 // The line `put_value`.
@@ -100,7 +127,11 @@ fn put_value(line: &[u8], e: usize, image: &mut [u8], log: Log, plan: Plan) -> W
         return unwritten(log, plan);
     }
     let x = n.x;
-    quiet(log::put_value(image, log, plan, x[0] as u8, x[1]))
+    let put = Kind::PutValue {
+        id: x[0] as u8,
+        new: x[1],
+    };
+    quiet(in_place(image, log, plan, Request::of(put)))
 }
 
 // The line `put_anchor`.
@@ -115,7 +146,7 @@ fn put_anchor(line: &[u8], e: usize, image: &mut [u8], log: Log, plan: Plan) -> 
         head_seq: x[1],
         head_slot: x[2] as u16,
     };
-    quiet(log::put_anchor(image, log, plan, new))
+    quiet(in_place(image, log, plan, Request::of(Kind::PutAnchor(new))))
 }
 
 // A seed of zeros.
@@ -186,7 +217,8 @@ fn format(line: &[u8], e: usize, image: &mut [u8], log: Log, plan: Plan) -> Work
     }
     let x = n.x;
     let seeds = s.seeds;
-    quiet(log::format(image, log, plan, seeds, x[0] as usize))
+    let request = Request::format(seeds, x[0] as usize);
+    quiet(in_place(image, log, plan, request))
 }
 
 // The line `spend`.
@@ -196,7 +228,11 @@ fn spend(line: &[u8], e: usize, image: &mut [u8], log: Log, plan: Plan) -> Work 
         return unwritten(log, plan);
     }
     let x = n.x;
-    telling(tries::spend(image, log, plan, x[0] as u8, x[1] as u8))
+    let spend = Kind::Spend {
+        credential: x[0] as u8,
+        current: x[1] as u8,
+    };
+    telling(in_place(image, log, plan, Request::of(spend)))
 }
 
 // The line `set`.
@@ -206,7 +242,11 @@ fn set(line: &[u8], e: usize, image: &mut [u8], log: Log, plan: Plan) -> Work {
         return unwritten(log, plan);
     }
     let x = n.x;
-    quiet(tries::set(image, log, plan, x[0] as u8, x[1] as u8))
+    let set = Kind::Set {
+        credential: x[0] as u8,
+        tries: x[1] as u8,
+    };
+    quiet(in_place(image, log, plan, Request::of(set)))
 }
 
 // The line `advance_lamport`.
@@ -216,7 +256,73 @@ fn advance_lamport(line: &[u8], e: usize, image: &mut [u8], log: Log, plan: Plan
         return unwritten(log, plan);
     }
     let x = n.x;
-    telling(tries::advance_lamport(image, log, plan, x[0]))
+    let advance = Kind::AdvanceLamport { seen: x[0] };
+    telling(in_place(image, log, plan, Request::of(advance)))
+}
+
+// The line `program`.
+fn program(line: &[u8], e: usize, image: &mut [u8], log: Log, plan: Plan) -> Work {
+    let n = script::some_numbers(line, e, [MAX_64, MAX_64, 0, 0], 2);
+    let s = script::slot_at(line, n.next);
+    if !n.ok {
+        return unwritten(log, plan);
+    }
+    if !s.ok {
+        return unwritten(log, plan);
+    }
+    let x = n.x;
+    let bytes = s.bytes;
+    let request = Request::program(x[0] as usize, x[1] as usize, bytes);
+    quiet(in_place(image, log, plan, request))
+}
+
+// The line `erase`.
+fn erase(line: &[u8], e: usize, image: &mut [u8], log: Log, plan: Plan) -> Work {
+    let n = script::all_numbers(line, e, [MAX_64, 0, 0, 0], 1);
+    if !n.ok {
+        return unwritten(log, plan);
+    }
+    let x = n.x;
+    let erase = Kind::Erase {
+        sector: x[0] as usize,
+    };
+    quiet(in_place(image, log, plan, Request::of(erase)))
+}
+
+// The line `attempt`: the try's answer, beside the number's answer, the number, and the tries before.
+fn attempt(line: &[u8], e: usize, image: &mut [u8], log: Log, plan: Plan) -> Work {
+    let n = script::all_numbers(line, e, [MAX_8, MAX_8, MAX_64, 0], 3);
+    if !n.ok {
+        return unwritten(log, plan);
+    }
+    let x = n.x;
+    let turns = host::attempt(image, log, plan, x[0] as u8, x[1] as u8, x[2]);
+    let numbered = turns.first;
+    let spent = turns.second;
+    let answer = numbered.answer;
+    Work {
+        ok: true,
+        value: Given::Three {
+            first: basics::number(answer) as u64,
+            second: numbered.value,
+            third: spent.value,
+        },
+        done: spent,
+    }
+}
+
+// Which step or attempt a word names.
+fn step_of(word: &[u8]) -> Call {
+    if script::is_same(word, b"program") {
+        return Call::Program;
+    }
+    if script::is_same(word, b"erase") {
+        return Call::Erase;
+    }
+    if script::is_same(word, b"attempt") {
+        return Call::Attempt;
+    }
+    Call::Other
 }
 
 // Which call a word names.
@@ -242,10 +348,10 @@ fn call_of(word: &[u8]) -> Call {
     if script::is_same(word, b"advance_lamport") {
         return Call::AdvanceLamport;
     }
-    Call::Other
+    step_of(word)
 }
 
-// A line whose first word ends at `e`, if it is a call that can write.
+// A line whose first word ends at `e`, if it is one that can write.
 pub fn write(line: &[u8], e: usize, image: &mut [u8], log: Log, plan: Plan) -> Work
     requires { ⌜ e ≤ length (now line) ⌝ }
 {
@@ -258,6 +364,9 @@ pub fn write(line: &[u8], e: usize, image: &mut [u8], log: Log, plan: Plan) -> W
         Call::Spend => spend(line, e, image, log, plan),
         Call::Set => set(line, e, image, log, plan),
         Call::AdvanceLamport => advance_lamport(line, e, image, log, plan),
+        Call::Program => program(line, e, image, log, plan),
+        Call::Erase => erase(line, e, image, log, plan),
+        Call::Attempt => attempt(line, e, image, log, plan),
         Call::Other => unwritten(log, plan),
     }
 }

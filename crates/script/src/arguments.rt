@@ -1,7 +1,9 @@
-// The numbers of a line, up to four of them, each within a limit of its own.
+// The numbers of a line, up to four of them, each within a limit of its own; and a slot in hex.
 // A line that can't be read has `ok` false.
 use crate::Taken;
 use crate::decimals;
+use crate::hex;
+use flash::SLOT;
 ghost use Prim.Native.Nat.{_≤_};
 ghost use Rattle.script.specs.Limits.{Within};
 
@@ -66,5 +68,34 @@ pub fn all_numbers(line: &[u8], at: usize, most: [u64; 4], count: usize) -> Numb
         ok: false,
         next: n.next,
         x: x,
+    }
+}
+
+// The bytes of a slot, if they were there.
+pub struct SlotRead {
+    pub ok: bool,
+    pub bytes: [u8; SLOT],
+}
+
+// A space, the sixteen bytes of a slot, and the line's end.
+pub fn slot_at(line: &[u8], at: usize) -> SlotRead {
+    let mut bytes = [0u8; SLOT];
+    if line.len() <= at {
+        return SlotRead {
+            ok: false,
+            bytes: bytes,
+        };
+    }
+    let n = hex::hex_bytes(line, at + 1, &mut bytes, 0);
+    let mut ok = line[at] == b' ';
+    if n < SLOT {
+        ok = false;
+    }
+    if line.len() - at != 1 + 2 * SLOT {
+        ok = false;
+    }
+    SlotRead {
+        ok: ok,
+        bytes: bytes,
     }
 }

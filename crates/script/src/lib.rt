@@ -4,7 +4,7 @@
 mod words; // where a word ends, whether two texts are the same, a word that is expected
 mod decimals; // a number in decimal, within a limit
 mod hex; // bytes in lower-case hex
-mod arguments; // up to four numbers of a line
+mod arguments; // up to four numbers of a line, and a slot in hex
 mod loglines; // a log, as a line gives it
 mod settings; // the lines image, at, plan and log
 mod chunks; // the input, chunk by chunk
@@ -15,7 +15,9 @@ pub use arguments::MAX_16;
 pub use arguments::MAX_32;
 pub use arguments::MAX_64;
 pub use arguments::Numbers;
+pub use arguments::SlotRead;
 pub use arguments::all_numbers;
+pub use arguments::slot_at;
 pub use arguments::some_numbers;
 pub use board::Board;
 pub use board::Given;
