@@ -21,7 +21,7 @@ NOT_VALUES = [0, 9, 17, 255]
 WRONG_SIZES = [0, 1, 16, 4095, 4097, 8191, 12289, 65535, 65537, 69632, 131072, 2**32, 2**32 + 4096, MAX64]
 CALLS = [
     "open", "put", "put_value", "put_anchor", "format", "get", "value", "anchor", "lamport",
-    "needs_migration", "remaining", "load", "spend", "set", "advance_lamport",
+    "needs_migration", "remaining", "load", "spend", "set", "advance_lamport", "program", "erase", "attempt",
 ]
 
 
@@ -195,6 +195,18 @@ def some_anchor(d):
     return f"put_anchor {d.pick([0, 1, 2, 65535])} {seq} {d.pick([0, 1, 2, 65535])}"
 
 
+def some_place(d):
+    """A sector and a slot: mostly of an image's first sectors, else at an edge or past it."""
+    sector = d.below(3) if d.chance(80) else d.pick([15, 16, 2**32, MAX64])
+    return sector, d.pick([0, 1, 2, 254, 255]) if d.chance(90) else d.pick([256, 2**32, MAX64])
+
+
+def some_program(d):
+    sector, place = some_place(d)
+    data = d.pick([header(d.among(1, 9)), slot(d.among(1, 9), some_record(d)), d.bytes(16), bytes(16), b"\xff" * 16])
+    return f"program {sector} {place} {data.hex()}"
+
+
 def some_call(d, name=None):
     """One call, by name or any, its arguments mostly good."""
     name = name or d.pick(CALLS[1:])
@@ -208,17 +220,24 @@ def some_call(d, name=None):
         "spend": lambda: [some_cred(d), some_byte(d)],
         "set": lambda: [some_cred(d), some_byte(d)],
         "advance_lamport": lambda: [some64(d)],
+        "erase": lambda: [some_place(d)[0]],
+        "attempt": lambda: [some_cred(d), some_byte(d), some64(d)],
     }
     if name == "format":
         return some_format(d)
     if name == "put_anchor":
         return some_anchor(d)
+    if name == "program":
+        return some_program(d)
     words = numbers[name]() if name in numbers else []
     return " ".join([name, *map(str, words)])
 
 
+WRITES = ["put", "put_value", "put_value", "put_anchor", "spend", "spend", "set", "set", "advance_lamport", "attempt"]
+
+
 def some_write(d):
-    return some_call(d, d.pick(["put", "put_value", "put_value", "put_anchor", "spend", "spend", "set", "set", "advance_lamport"]))
+    return some_call(d, d.pick(WRITES))
 
 
 def sure_write(d):
@@ -666,6 +685,33 @@ def faults(d, whole):
     return lines
 
 
+def steps(d, whole):
+    """Programs and erases alone, on images of right and wrong sizes, under plans that refuse and cut them; the log is not looked at."""
+    sectors = d.pick([1, 2, 3, 16])
+    image = active_image(d, sectors, d.pick([2, 9, 255, 256]))[0]
+    lines = [*image.lines(), d.pick([HEALTHY, "plan 70000 0 0"]), "open"]
+    for _ in range(6):
+        sector, place = d.below(sectors), d.pick([0, 1, 254, 255])
+        data = d.pick([slot(d.among(1, 9), some_record(d)), bytes(16), b"\xff" * 16, d.bytes(16)]).hex()
+        lines += [d.pick([HEALTHY, "plan inf 0 1", "plan inf 1 2", f"plan {d.below(40)} 0 0", f"plan {4080 + d.below(40)} 0 0"])]
+        lines += [f"program {sector} {place} {data}", d.pick([f"erase {sector}", some_call(d, "erase")]), some_program(d), f"program {sector} {place} {data}"]
+        lines += d.pick([[], ["open"], [log_line("active 0 1 0", 2, []), "erase 0", "program 0 1 " + data, "open"]])
+    if d.chance(30):
+        lines += [f"image {d.pick(WRONG_SIZES)}", "erase 0", "program 0 0 " + "00" * 16]
+    return lines
+
+
+def attempts(d, whole):
+    """PIN attempts: the number and the try on one plan, near the end of a sector, under plans that refuse or cut either."""
+    image = active_image(d, d.pick([1, 2, 3]), d.turn([9, 253, 254, 255, 256]), d.pick([0, 1, 2]))[0]
+    cred = d.pick(CREDENTIALS)
+    lines = [*image.lines(), HEALTHY, "open", f"set {cred} {d.pick([1, 2, 9])}", "save"]
+    plans = [HEALTHY, "plan inf 1 0", *(f"plan inf 0 {n}" for n in range(1, 8)), *(f"plan {n} 0 0" for n in (0, 5, 15, 16, 17, 31, 32, 33, 4140))]
+    for plan in d.shuffled(plans)[:8]:
+        lines += [plan, f"attempt {cred} {some_byte(d)} {d.pick([0, 1, 7, MAX64])}", some_call(d, "attempt"), "open", "restore"]
+    return lines
+
+
 def cut_appends(d, whole):
     """The power cut at every byte of an append, at every sort of head, and the reopening."""
     sectors = d.pick([1, 2, 3])
@@ -738,7 +784,8 @@ ODD_LINES = [
     "log active 4294967295 4294967295 4294967295 next 4294967295 count 18446744073709551615",
     "at 1 " + "5a" * 4095, "put_value 3 18446744073709551615", "put_anchor 65535 18446744073709551615 65535",
     "put 255 255 4294967295 4294967295", "load 255 1 255", "plan 18446744073709551615 1 4294967295",
-    "image 18446744073709551615", "format 18446744073709551615",
+    "image 18446744073709551615", "format 18446744073709551615", "program 000 0001 " + "0a" * 16 + " ",
+    f"program {MAX64} {MAX64} " + "00" * 16, f"erase {MAX64}", f"attempt 255 255 {MAX64}", "erase 00 ",
 ]
 # Lines that cannot be read, by the words of docs/REPLAY.md.
 BAD_LINES = [
@@ -758,6 +805,11 @@ BAD_LINES = [
     "log active 0 1 2 next 2 count 1 " + "00" * 11, "log active 0 1 2 next 2 count 1 " + "00" * 13, "log active 0 1 2 next 2 count 1 " + "0G" * 12,
     "log active 0 1 2 next 2 count 32 " + " ".join(["00" * 12] * 33), "#" + "x" * 16384, "get 1" + " " * 16380,
     "saved", "restored", "dumps", "lists", "é", "open é", "bad line 1",
+    "program", "program 0", "program 0 0", "program 0 0 " + "00" * 15, "program 0 0 " + "00" * 17, "program 0 0 " + "00" * 16 + " 1",
+    "program 0 0 " + "0" * 31, "program 0 0 " + "0" * 33, "program 0 0 " + "00" * 15 + "0G", "program 0 0 " + "FF" * 16, "program 0 0x" + "00" * 16,
+    "program 0 0  " + "00" * 16, f"program {MAX64 + 1} 0 " + "00" * 16, f"program 0 {MAX64 + 1} " + "00" * 16, "program -1 0 " + "00" * 16,
+    "erase", "erase 0 0", f"erase {MAX64 + 1}", "erase -1", "attempt", "attempt 1 3", "attempt 256 3 0", "attempt 1 256 0",
+    f"attempt 1 3 {MAX64 + 1}", "attempt 1 3 0 0", "erases 0", "programs 0 0 " + "00" * 16, "attempts 1 3 0",
 ]
 # Scripts with a corner of the format, as docs/REPLAY.md decides it.
 READY = ["image 4096", HEALTHY, "open"]
@@ -799,6 +851,8 @@ KINDS = {
     "bad-ids": (bad_ids, 4, False),
     "formats": (formats, 6, False),
     "faults": (faults, 8, False),
+    "steps": (steps, 6, False),
+    "attempts": (attempts, 6, False),
     "cut-appends": (cut_appends, 8, False),
     "cut-commits": (cut_commits, 8, False),
     "cut-formats": (cut_formats, 6, False),

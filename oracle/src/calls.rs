@@ -2,7 +2,9 @@
 //! unchanged Rust.
 
 use retry_counter::access::{self, Flash, Place, Plan, RustLog, State};
-use retry_counter::{Anchor, CounterLog, CounterState, Credential, RetryCounterBackend, ValueId};
+use retry_counter::{
+    Anchor, CounterFlash, CounterLog, CounterState, Credential, RetryCounterBackend, ValueId,
+};
 
 use pico2hsm_core::error::{HsmError, StorageError};
 use pico2hsm_core::flash::SECTOR_SIZE;
@@ -290,6 +292,83 @@ impl Call {
                 one(retry_counter::advance_lamport(log, seen).map_err(storage)?)
             }
         })
+    }
+}
+
+// ---- the lines of the host build beside its calls
+
+/// One step of the flash alone, under the board's plan. The log isn't looked at.
+fn alone(board: &mut Board, step: impl FnOnce(&mut Flash) -> Result<(), StorageError>) -> Reply {
+    let mut flash = Flash {
+        image: std::mem::take(&mut board.image),
+        plan: board.plan,
+        programmed: 0,
+        erased: 0,
+    };
+    let result = step(&mut flash);
+    board.image = flash.image;
+    board.plan = flash.plan;
+    Reply {
+        answer: result.map_or_else(number_of, |()| 0),
+        value: Handed::Nothing,
+        programmed: flash.programmed,
+        erased: flash.erased,
+    }
+}
+
+fn not_begun(answer: u8) -> Reply {
+    Reply {
+        answer,
+        value: Handed::Nothing,
+        programmed: 0,
+        erased: 0,
+    }
+}
+
+/// A slot programmed and read back: another content is a failure. 1 of no image, 6 of a slot that it lacks.
+pub fn program(board: &mut Board, sector: u64, slot: u64, bytes: [u8; 16]) -> Reply {
+    let Some(sectors) = sectors_of(board.image.len()) else {
+        return not_begun(1);
+    };
+    if sector >= u64::from(sectors) || slot >= 256 {
+        return not_begun(6);
+    }
+    let offset = (sector * SECTOR_SIZE as u64 + slot * 16) as u32;
+    alone(board, |flash| {
+        flash.program(offset, &bytes)?;
+        let mut found = [0; 16];
+        flash.read(offset, &mut found)?;
+        if found == bytes {
+            Ok(())
+        } else {
+            Err(StorageError::WriteError)
+        }
+    })
+}
+
+/// A sector erased. 1 of no image, 7 of a sector that it lacks.
+pub fn erase(board: &mut Board, sector: u64) -> Reply {
+    let Some(sectors) = sectors_of(board.image.len()) else {
+        return not_begun(1);
+    };
+    if sector >= u64::from(sectors) {
+        return not_begun(7);
+    }
+    alone(board, |flash| flash.erase_sector(sector as u32))
+}
+
+/// A PIN attempt: the clock's next number, then the try on what that left. The try's answer and wear,
+/// beside the number's answer, the number, and the tries before.
+pub fn attempt(board: &mut Board, cred: u8, current: u8, seen: u64) -> Reply {
+    let told = |r: &Reply| match &r.value {
+        Handed::Numbers(n) => n[0],
+        Handed::Nothing | Handed::None => unreachable!("both calls tell a number"),
+    };
+    let numbered = Call::AdvanceLamport(seen).make(board);
+    let spent = Call::Spend(cred, current).make(board);
+    Reply {
+        value: Handed::Numbers(vec![numbered.answer.into(), told(&numbered), told(&spent)]),
+        ..spent
     }
 }
 

@@ -98,6 +98,29 @@ fn call(words: &[&[u8]]) -> Option<Call> {
     })
 }
 
+/// What a line with an answer does to the board.
+fn line_of(words: &[&[u8]]) -> Option<Box<dyn FnOnce(&mut Board) -> Reply>> {
+    Some(match words {
+        [b"program", sector, slot, hex] => {
+            let (sector, slot) = (number(sector)?, number(slot)?);
+            let bytes = <[u8; 16]>::try_from(bytes(hex)?).ok()?;
+            Box::new(move |board| calls::program(board, sector, slot, bytes))
+        }
+        [b"erase", sector] => {
+            let sector = number(sector)?;
+            Box::new(move |board| calls::erase(board, sector))
+        }
+        [b"attempt", cred, current, seen] => {
+            let (cred, current, seen) = (number(cred)?, number(current)?, number(seen)?);
+            Box::new(move |board| calls::attempt(board, cred, current, seen))
+        }
+        words => {
+            let call = call(words)?;
+            Box::new(move |board| call.make(board))
+        }
+    })
+}
+
 fn plan(units: &[u8], refuse_erases: &[u8], refuse_programs: &[u8]) -> Option<Plan> {
     Some(Plan {
         units: if units == b"inf" {
@@ -264,9 +287,9 @@ fn step(line: &[u8], board: &mut Board, kept: &mut Board, out: &mut String) -> O
         }
         [b"list"] => put_list(out, &board.image),
         words => {
-            let call = call(words)?;
+            let make = line_of(words)?;
             let before = board.image.clone();
-            let reply = call.make(board);
+            let reply = make(board);
             put_reply(out, &reply, board, &before);
         }
     }
