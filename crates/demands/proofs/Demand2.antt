@@ -10,9 +10,7 @@ demand-2 = record {
   calls = λ o x y a b i. ((a .answered ∙ sym (b .answered)) i, (a .left ∙ sym (b .left)) i);
   lent-calls = λ o x y a b i.
       ((a .met .answered ∙ sym (b .met .answered)) i, (a .met .left ∙ sym (b .met .left)) i, (a .left ∙ sym (b .left)) i);
-  lent-steps = λ o x y a b i.
-      ((a .met .shown ∙ sym (b .met .shown)) i, (a .met .left ∙ sym (b .met .left)) i, (a .left ∙ sym (b .left)) i);
-  attempts = λ image log plan credential current seen x y a b i. ((a .answered ∙ sym (b .answered)) i, (a .left ∙ sym (b .left)) i);
+  turns = λ first second image log plan x y a b i. ((a .answered ∙ sym (b .answered)) i, (a .left ∙ sym (b .left)) i);
   steps = λ o x y a b i. ((a false .shown ∙ sym (b false .shown)) i, (a false .left ∙ sym (b false .left)) i);
   writes = λ o x y a b i. ((a false .shown ∙ sym (b false .shown)) i, (a false .left ∙ sym (b false .left)) i);
   puts = λ before at text x y a b i. ((a .left ∙ sym (b .left)) i, (a .past ∙ sym (b .past)) i);

@@ -18,10 +18,10 @@ use Rattle.sectors.specs.Shown.{ShowsStep, ShowsWrote}
 use Rattle.decisions.specs.declared.outcomes.Done.{Done}
 use Rattle.decisions.specs.Outcomes.{Outcome, ShowsDone}
 use Rattle.text.specs.Text.{Puts}
-use Rattle.host.specs.declared.attempts.Attempted.{Attempted}
-use Rattle.host.specs.LentFlash.{ShowsStepLent}
-use Rattle.host.specs.LentCalls.{ShowsDoneLent}
-use Rattle.host.specs.Attempts.{AttemptOf}
+use Rattle.host.specs.declared.requests.Request.{Request}
+use Rattle.host.specs.declared.turns.InTurn.{InTurn}
+use Rattle.host.specs.Lent.{ShowsDoneLent}
+use Rattle.host.specs.Turns.{InTurnOf}
 
 -- at most one result meets the promise
 abbrev pub Determines : {A : Type 0} → (A → Type 0) → Type 0
@@ -30,11 +30,11 @@ Determines {A} promise = (x y : A) → promise x → promise y → x ≡ y
 pub record Demand2 : Type 0 where
   -- the calls that can write: the answer struct, and the image
   pub calls : (o : Outcome) → Determines (λ (x : Done × List ℕ). ShowsDone o (x .0) (x .1))
-  -- the same on a lent plan: and what lies where the plan was
+  -- a request on a lent plan: and what lies where the plan was
   pub lent-calls : (o : Outcome) → Determines (λ (x : Done × List ℕ × Plan). ShowsDoneLent o (x .0) (x .1) (x .2))
-  pub lent-steps : (o : Stepped) → Determines (λ (x : Step × List ℕ × Plan). ShowsStepLent o (x .0) (x .1) (x .2))
-  pub attempts : (image : List ℕ) (log : Log) (plan : Plan) (credential current seen : ℕ)
-      → Determines (λ (x : Attempted × List ℕ). AttemptOf image log plan credential current seen (x .0) (x .1))
+  -- two requests in turn, as a PIN attempt is: both answer structs, and the image
+  pub turns : (first second : Request) (image : List ℕ) (log : Log) (plan : Plan)
+      → Determines (λ (x : InTurn × List ℕ). InTurnOf first second image log plan (x .0) (x .1))
   -- the steps of writing, whose contracts hold for any cut
   pub steps : (o : Bool → Stepped) → Determines (λ (x : Step × List ℕ). (cut : Bool) → ShowsStep (o cut) (x .0) (x .1))
   pub writes : (o : Bool → Written) → Determines (λ (x : Wrote × List ℕ). (cut : Bool) → ShowsWrote (o cut) (x .0) (x .1))
