@@ -35,6 +35,11 @@ pub by-test {ℓ κ} : {A : Type ℓ} (P : A → Type κ) (b : Bool) (x y : A) �
 by-test P true x y f g = f refl
 by-test P false x y f g = g refl
 
+-- a function of a choice is a choice of what it gives
+pub pick-through {ℓ κ} : {A : Type ℓ} {B : Type κ} (f : A → B) (b : Bool) (x y : A) → f (pick b x y) ≡ pick b (f x) (f y)
+pick-through f true x y = refl
+pick-through f false x y = refl
+
 -- a test of "smaller" that fails is a test of "not above"
 pub not-ltb : (a b : ℕ) → not (ltb a b) ≡ leb b a
 not-ltb a b =

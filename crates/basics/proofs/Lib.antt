@@ -3,3 +3,4 @@ pub mod ChoiceLaws
 pub mod ListsLaws
 pub mod ListsSplice
 pub mod LittleLaws
+pub mod SaysLaws

@@ -1,5 +1,6 @@
--- The vocabulary of all specs, in four short files.
+-- The vocabulary of all specs, in five short files.
 pub mod Choice
 pub mod Lists
 pub mod Little
 pub mod Answers
+pub mod Says

@@ -11,7 +11,7 @@ use lib.ListN.{length, getD, drop, drop-of-length-le}
 use lib.Seq.{drop-cons}
 use borrow.Author.Tests.{eq-eqb, ne-eqb, eqb-true, eqb-false, lt-ltb, le-ltb, ltb-true, ltb-false, not-true}
 use Rattle.basics.specs.Choice.{pick}
-use Rattle.basics.proofs.ChoiceLaws.{first, second, by-test}
+use Rattle.basics.proofs.ChoiceLaws.{first, second, by-test, pick-through}
 use Rattle.basics.specs.declared.Answer.the-variants.{WriteError}
 use Rattle.ids.specs.declared.Place.{Place}
 use Rattle.ids.specs.declared.Place.the-variants.{At, Unknown}
@@ -22,7 +22,7 @@ use Rattle.ids.specs.declared.Next.{Next}
 use Rattle.ids.specs.declared.Next.the-variants.{State, Refused}
 use Rattle.ids.specs.Ids.{counterTag, valueTag, anchorTag, credentials, placeFrom, placeOf, isPlace, isCredential, isValue, mayFall}
 use Rattle.ids.specs.Ids.{isMonotonic, credentialMeaning, valueMeaning, meaningOf}
-use Rattle.ids.specs.Counters.{freshOf, remainingOf, totalMax, oneMore, failedOf, resetOf, nextNumber}
+use Rattle.ids.specs.Counters.{freshOf, remainingOf, totalMax, oneMore, failedOf, resetOf, failedSays, nextSays}
 
 -- ---- a search of the table, from place i on
 module _ (l : List ℕ) (i x : ℕ) where
@@ -191,14 +191,10 @@ failed-state s n =
     (λ t e. let z : _≡_ {A = ℕ} 0 1 = cc in absurd (omega arith))
     (λ t e. (cc))
 
--- the paper's number: 6 at the maximum, else 0
-pub failed-number : (s : CounterState) → nextNumber (failedOf s) ≡ pick (eqb (s .total) totalMax) 6 0
-unfolding failedOf
-failed-number s = number (eqb (s .total) totalMax)
-  where
-    number : (b : Bool) → nextNumber (pick b (Refused WriteError) (State (oneMore s))) ≡ pick b 6 0
-    number true = refl
-    number false = refl
+-- what it says in numbers: 6 at the maximum, else 0 and the next state
+pub failed-says : (s : CounterState) → nextSays (failedOf s) ≡ failedSays s
+unfolding failedOf failedSays
+failed-says s = pick-through nextSays (eqb (s .total) totalMax) (Refused WriteError) (State (oneMore s))
 
 module _ (s : CounterState) where
   failure-takes : s .«at_reset» ≤ s .total → remainingOf (oneMore s) ≡ remainingOf s - 1

@@ -3,6 +3,7 @@ use Prim.Native.Nat.{ℕ, _+_, _-_}
 use lib.Dec.{eqb, ltb}
 use Rattle.basics.specs.Choice.{pick}
 use Rattle.basics.specs.Answers.{numberOf}
+use Rattle.basics.specs.Says.{Says, saysRefused, saysHeld}
 use Rattle.basics.specs.declared.Answer.the-variants.{WriteError}
 use Rattle.ids.specs.declared.CounterState.{CounterState}
 use Rattle.ids.specs.declared.Next.{Next}
@@ -26,11 +27,14 @@ oneMore s = record { total = s .total + 1; «at_reset» = s .«at_reset»; allow
 unfoldable pub failedOf : CounterState → Next
 failedOf s = pick (eqb (s .total) totalMax) (Refused WriteError) (State (oneMore s))
 
+-- in the paper's numbers: what a failure comes to, and each case of the answer
+unfoldable pub failedSays : CounterState → Says CounterState
+failedSays s = pick (eqb (s .total) totalMax) (saysRefused 6) (saysHeld (oneMore s))
+
+abbrev pub nextSays : Next → Says CounterState
+nextSays (State s) = saysHeld s
+nextSays (Refused a) = saysRefused (numberOf a)
+
 -- after a reset: "at-reset becomes total and the allowance that number"
 abbrev pub resetOf : CounterState → ℕ → CounterState
 resetOf s n = record { total = s .total; «at_reset» = s .total; allowance = n }
-
--- "Numbers returned", of each case
-abbrev pub nextNumber : Next → ℕ
-nextNumber (State s) = 0
-nextNumber (Refused a) = numberOf a

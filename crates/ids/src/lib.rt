@@ -11,7 +11,7 @@ pub use meanings::meaning_of;
 // What stands here uses:
 use basics::Answer;
 ghost use mathlib.Core.Path.{_≡_};
-ghost use Rattle.ids.specs.Counters.{freshOf, remainingOf, failedOf, resetOf};
+ghost use Rattle.ids.specs.Counters.{freshOf, remainingOf, failedOf, failedSays, nextSays, resetOf};
 
 // The ids of the device values; the numbers stand on flash, so they never change.
 pub const LAMPORT: u8 = 1;
@@ -109,7 +109,7 @@ impl CounterState {
 
     // The counter after one failure more. At the highest total it is refused: a total that wrapped would hand back tries.
     pub fn after_failure(self) -> Next
-        ensures { λ r. ⌜ r ≡ failedOf self ⌝ }
+        ensures { λ r. ⌜ (r ≡ failedOf self) × (nextSays r ≡ failedSays self) ⌝ }
     {
         if self.total == TOTAL_MAX {
             return Next::Refused(Answer::WriteError);

@@ -23,7 +23,7 @@ spent f x e =
     let l = f .before in
     let r = l .before in
     let a = r .before .args in
-    ap₂ (λ (n : ℕ) (y : Next). spentBy (a .room) (a .credential) n y) (r .remaining .ensures) (sym e ∙ f .after-failure .ensures)
+    ap₂ (λ (n : ℕ) (y : Next). spentBy (a .room) (a .credential) n y) (r .remaining .ensures) (sym e ∙ f .after-failure .ensures .0)
     ∙ sym
     (ap (λ (b : Bool). pick b (give 0) (spentBy (a .room) (a .credential) (remainingOf (a .s)) (failedOf (a .s))))
     (ap (λ (n : ℕ). eqb n 0) (sym (r .remaining .ensures)) ∙ ne-eqb (r .remaining .result) 0 (l .if1 .left)))
