@@ -1,2 +1,3 @@
--- Laws of the tests that every call begins with.
+-- Laws of the tests that every call begins with, and of what the calls that read say in numbers.
 pub mod EnteringLaws
+pub mod ReadsSays

@@ -1,11 +1,15 @@
 -- The calls that only read the log: "Calls that only read the log take no image; for them the sector must be below 16."
 -- "Beside a refusal any value asked for is 0 or none."
 use mathlib.Core.Bool.{Bool, true}
+use mathlib.Core.List.{List}
 use Prim.Native.Nat.{ℕ}
 use Rattle.basics.specs.Choice.{pick}
 use Rattle.basics.specs.Answers.{numberOf, isDone}
+use Rattle.basics.specs.Says.{Says, saysRefused, saysNothing, saysHeld}
 use Rattle.basics.specs.declared.Answer.{Answer}
 use Rattle.basics.specs.declared.Answer.the-variants.{Done, NotFormatted, ReadError}
+use Rattle.ids.specs.declared.CounterState.{CounterState}
+use Rattle.ids.specs.declared.Anchor.{Anchor}
 use Rattle.ids.specs.Ids.{counterTag, valueTag, anchorTag, isCredential, isValue, lamport}
 use Rattle.codec.specs.declared.OptRaw.{OptRaw}
 use Rattle.bodies.specs.Bodies.{counterIn, valueIn, anchorIn}
@@ -27,6 +31,15 @@ abbrev pub readBy : {A : Type 0} → (State → OptRaw → A) → (Answer → A)
 readBy by refused log known tag id =
     pick (isDone (entryAnswer 16 log known)) (by (log .state) (heldOf tag id (recordsOf log))) (refused (entryAnswer 16 log known))
 
+-- the same in the paper's numbers, for any value that a body holds; `unformatted`: what is said of an Unformatted log, 4 or that there is none
+abbrev pub heldSays : {A : Type 0} → Says A → (List ℕ → A) → State → OptRaw → Says A
+heldSays unformatted bodyIn Unformatted held = unformatted
+heldSays unformatted bodyIn Failed held = saysRefused 5
+heldSays unformatted bodyIn (Active sector seq head) held = pick (held .some) (saysHeld (bodyIn (held .raw .body))) saysNothing
+
+abbrev pub readSays : {A : Type 0} → Says A → (List ℕ → A) → Log → Bool → ℕ → ℕ → Says A
+readSays unformatted bodyIn = readBy (heldSays unformatted bodyIn) (λ a. saysRefused (numberOf a))
+
 -- ---- get: "4 NotFormatted, 5 ReadError: log Unformatted, log Failed"
 abbrev pub counterBy : State → OptRaw → Counter
 counterBy Unformatted held = counter.Refused NotFormatted
@@ -35,6 +48,9 @@ counterBy (Active sector seq head) held = pick (held .some) (counter.Held (count
 
 unfoldable pub getOf : Log → ℕ → Counter
 getOf log credential = readBy counterBy counter.Refused log (isCredential credential) counterTag credential
+
+unfoldable pub getSays : Log → ℕ → Says CounterState
+getSays log credential = readSays (saysRefused 4) counterIn log (isCredential credential) counterTag credential
 
 -- ---- value
 abbrev pub numberBy : State → OptRaw → Number
@@ -45,6 +61,9 @@ numberBy (Active sector seq head) held = pick (held .some) (number.Held (valueIn
 unfoldable pub valueOf : Log → ℕ → Number
 valueOf log id = readBy numberBy number.Refused log (isValue id) valueTag id
 
+unfoldable pub valueSays : Log → ℕ → Says ℕ
+valueSays log id = readSays (saysRefused 4) valueIn log (isValue id) valueTag id
+
 -- ---- anchor: "on an Unformatted log answers "none" and no refusal"
 abbrev pub anchorBy : State → OptRaw → Anchored
 anchorBy Unformatted held = anchored.Nothing
@@ -53,6 +72,9 @@ anchorBy (Active sector seq head) held = pick (held .some) (anchored.Held (ancho
 
 unfoldable pub anchorOf : Log → Anchored
 anchorOf log = readBy anchorBy anchored.Refused log true anchorTag 0
+
+unfoldable pub anchorSays : Log → Says Anchor
+anchorSays log = readSays saysNothing anchorIn log true anchorTag 0
 
 -- ---- lamport: "answers 0 where no record is held"
 abbrev pub toldOf : ℕ → Told
@@ -78,18 +100,18 @@ migrationBy (Active sector seq head) held = toldOf 0
 unfoldable pub needsMigrationOf : Log → Told
 needsMigrationOf log = readBy migrationBy toldRefused log true anchorTag 0
 
--- ---- "Numbers returned", of each case
-abbrev pub counterNumber : Counter → ℕ
-counterNumber (counter.Refused a) = numberOf a
-counterNumber counter.Nothing = 0
-counterNumber (counter.Held s) = 0
+-- ---- "Numbers returned" and the value asked for, of each case
+abbrev pub counterSays : Counter → Says CounterState
+counterSays (counter.Refused a) = saysRefused (numberOf a)
+counterSays counter.Nothing = saysNothing
+counterSays (counter.Held s) = saysHeld s
 
-abbrev pub numberNumber : Number → ℕ
-numberNumber (number.Refused a) = numberOf a
-numberNumber number.Nothing = 0
-numberNumber (number.Held x) = 0
+abbrev pub numberSays : Number → Says ℕ
+numberSays (number.Refused a) = saysRefused (numberOf a)
+numberSays number.Nothing = saysNothing
+numberSays (number.Held x) = saysHeld x
 
-abbrev pub anchoredNumber : Anchored → ℕ
-anchoredNumber (anchored.Refused a) = numberOf a
-anchoredNumber anchored.Nothing = 0
-anchoredNumber (anchored.Held a) = 0
+abbrev pub anchoredSays : Anchored → Says Anchor
+anchoredSays (anchored.Refused a) = saysRefused (numberOf a)
+anchoredSays anchored.Nothing = saysNothing
+anchoredSays (anchored.Held a) = saysHeld a

@@ -6,11 +6,11 @@ use basics::Answer;
 use records::Log;
 use records::State;
 ghost use mathlib.Core.Path.{_≡_};
-ghost use Rattle.reads.specs.Reads.{getOf, valueOf, anchorOf};
+ghost use Rattle.reads.specs.Reads.{getOf, getSays, valueOf, valueSays, anchorOf, anchorSays, counterSays, numberSays, anchoredSays};
 
 // The counter held of a credential.
 pub fn get(log: Log, credential: u8) -> Counter
-    ensures { λ r. ⌜ r ≡ getOf log credential ⌝ }
+    ensures { λ r. ⌜ (r ≡ getOf log credential) × (counterSays r ≡ getSays log credential) ⌝ }
 {
     let e = crate::enter(
         log,
@@ -44,7 +44,7 @@ pub fn get(log: Log, credential: u8) -> Counter
 
 // The number held of a value id.
 pub fn value(log: Log, id: u8) -> Number
-    ensures { λ r. ⌜ r ≡ valueOf log id ⌝ }
+    ensures { λ r. ⌜ (r ≡ valueOf log id) × (numberSays r ≡ valueSays log id) ⌝ }
 {
     let e = crate::enter(log, crate::MOST, ids::is_value(id), ids::VALUE_TAG, id);
     let answer = e.answer;
@@ -72,7 +72,7 @@ pub fn value(log: Log, id: u8) -> Number
 
 // The anchor held. On an Unformatted log it answers "none" and no refusal.
 pub fn anchor(log: Log) -> Anchored
-    ensures { λ r. ⌜ r ≡ anchorOf log ⌝ }
+    ensures { λ r. ⌜ (r ≡ anchorOf log) × (anchoredSays r ≡ anchorSays log) ⌝ }
 {
     let e = crate::enter(log, crate::MOST, true, ids::ANCHOR_TAG, 0);
     let answer = e.answer;

@@ -5,6 +5,7 @@ use Prim.Native.Nat.{ℕ, _+_, max}
 use lib.Dec.{eqb, leb}
 use Rattle.basics.specs.Choice.{pick}
 use Rattle.basics.specs.Answers.{numberOf}
+use Rattle.basics.specs.Says.{Says, saysRefused, saysNothing, saysHeld, saysMap}
 use Rattle.basics.specs.declared.Answer.the-variants.{WriteError}
 use Rattle.ids.specs.declared.CounterState.{CounterState}
 use Rattle.ids.specs.declared.Next.{Next}
@@ -20,7 +21,7 @@ use Rattle.decisions.specs.Decisions.{refuse, give, write}
 use Rattle.reads.specs.declared.Counter.{Counter}
 use Rattle.reads.specs.declared.Counter.the-variants as counter
 use Rattle.reads.specs.declared.Told.{Told}
-use Rattle.reads.specs.Reads.{getOf, toldOf, toldRefused}
+use Rattle.reads.specs.Reads.{getOf, getSays, toldOf, toldRefused}
 use Rattle.decisions.specs.Outcomes.{Outcome, entered}
 use Rattle.decisions.specs.Performing.{decided}
 use Rattle.tries.specs.declared.TriesLeft.{TriesLeft}
@@ -34,6 +35,15 @@ triesLeftBy (counter.Held s) = Tries (remainingOf s)
 
 abbrev pub triesLeftOf : Log → ℕ → TriesLeft
 triesLeftOf log credential = triesLeftBy (getOf log credential)
+
+-- in the paper's numbers: what get says, with the counter's tries, and each case of the answer
+abbrev pub triesLeftSaysOf : Log → ℕ → Says ℕ
+triesLeftSaysOf log credential = saysMap remainingOf (getSays log credential)
+
+abbrev pub triesLeftSays : TriesLeft → Says ℕ
+triesLeftSays (Refused a) = saysRefused (numberOf a)
+triesLeftSays Nothing = saysNothing
+triesLeftSays (Tries n) = saysHeld n
 
 -- ---- load: "gives 0 where the log would answer 4 or 5, and the fresh number only if nothing is held and no record exists; 2 and 3 stay refusals"
 abbrev pub loadBy : Bool → ℕ → TriesLeft → Told
@@ -93,9 +103,3 @@ advanceDecision held room seen = advanceFrom (seenOf held seen) room
 unfoldable pub advanceOf : List ℕ → Log → Plan → ℕ → Outcome
 advanceOf image log plan seen =
     entered image log plan true (decided valueTag lamport (λ (held : OptRaw) (room : Bool). advanceDecision held room seen))
-
--- "Numbers returned", of each case
-abbrev pub triesLeftNumber : TriesLeft → ℕ
-triesLeftNumber (Refused a) = numberOf a
-triesLeftNumber Nothing = 0
-triesLeftNumber (Tries n) = 0

@@ -14,7 +14,7 @@ use reads::Counter;
 use reads::Told;
 use records::Log;
 ghost use mathlib.Core.Path.{_≡_};
-ghost use Rattle.tries.specs.Tries.{triesLeftOf, loadOf};
+ghost use Rattle.tries.specs.Tries.{triesLeftOf, triesLeftSaysOf, triesLeftSays, loadOf};
 
 // The tries left of a credential, where a record of it is held.
 pub enum TriesLeft {
@@ -25,7 +25,7 @@ pub enum TriesLeft {
 
 // The tries left of a credential: its counter's, where one is held.
 pub fn remaining(log: Log, credential: u8) -> TriesLeft
-    ensures { λ r. ⌜ r ≡ triesLeftOf log credential ⌝ }
+    ensures { λ r. ⌜ (r ≡ triesLeftOf log credential) × (triesLeftSays r ≡ triesLeftSaysOf log credential) ⌝ }
 {
     match reads::get(log, credential) {
         Counter::Refused(answer) => TriesLeft::Refused(answer),

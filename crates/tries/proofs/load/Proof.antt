@@ -14,7 +14,7 @@ use Rattle.tries.proofs.load.Tie as tie
 -- what is loaded, by what is left
 by : (r : tie.After-remaining) (x : TriesLeft) → r .remaining .result ≡ x →
     let a = r .before .args in loadBy (a .exists) (a .fresh) x ≡ loadOf (a .log) (a .credential) (a .exists) (a .fresh)
-by r x e = let a = r .before .args in ap (loadBy (a .exists) (a .fresh)) (sym e ∙ r .remaining .ensures)
+by r x e = let a = r .before .args in ap (loadBy (a .exists) (a .fresh)) (sym e ∙ r .remaining .ensures .0)
 
 remaining-requires : tie.Need-remaining-requires
 remaining-requires c κs = search needs

@@ -4,14 +4,17 @@ use mathlib.Core.Bool.{Bool, true, false}
 use borrow.Author.Tests.{not-true, not-false}
 use Rattle.basics.specs.Choice.{pick}
 use Rattle.basics.specs.Answers.{isDone}
+use Rattle.basics.proofs.SaysLaws.{and-says}
 use Rattle.ids.specs.Ids.{counterTag, isCredential}
 use Rattle.bodies.specs.Bodies.{counterIn}
 use Rattle.records.specs.declared.State.{State}
 use Rattle.reads.specs.declared.Entry.{Entry}
+use Rattle.reads.specs.declared.Counter.{Counter}
 use Rattle.reads.specs.declared.Counter.the-variants.{Refused, Nothing, Held}
 use Rattle.reads.specs.Entering.{entryOf}
-use Rattle.reads.specs.Reads.{counterBy, getOf}
+use Rattle.reads.specs.Reads.{counterBy, getOf, getSays, counterSays}
 use Rattle.reads.proofs.EnteringLaws.{read-refused, read-by}
+use Rattle.reads.proofs.ReadsSays.{get-says}
 use borrow.Author.Needs.{needs}
 use Rattle.reads.proofs.held.get.Statement.{statement}
 use Rattle.reads.proofs.held.get.Tie as tie
@@ -41,6 +44,11 @@ module _ (d : tie.After-is-done) where
       read-by counterBy Refused (start-of .args .log) (isCredential (start-of .args .credential)) counterTag (start-of .args .credential)
       entry is-entry
 
+  -- what is handed back is what is read, and so it says the same
+  answers : {r : Counter} → r ≡ getOf (start-of .args .log) (start-of .args .credential)
+      → (r ≡ getOf (start-of .args .log) (start-of .args .credential)) × (counterSays r ≡ getSays (start-of .args .log) (start-of .args .credential))
+  answers = and-says counterSays (get-says (start-of .args .log) (start-of .args .credential))
+
 let-in : (l : tie.Else1) (s : State) → start-of (l .before) .args .log .state ≡ s
     → counterBy s (entry (l .before) .held) ≡ getOf (start-of (l .before) .args .log) (start-of (l .before) .args .credential)
 let-in l s e =
@@ -58,7 +66,7 @@ is-done-requires : tie.Need-is-done-requires
 is-done-requires c κs = search needs
 
 returns : tie.Need-returns
-returns c = let d = c .before in refused d (sym (d .is-done .ensures) ∙ not-true (d .is-done .result) (c .if1 .taken))
+returns c = let d = c .before in answers d (refused d (sym (d .is-done .ensures) ∙ not-true (d .is-done .result) (c .if1 .taken)))
 
 enum-told : tie.Need-enum-told
 enum-told c = search needs
@@ -75,17 +83,18 @@ returns-2 c =
     let m = c .before .before in
     let l = m .before .before .before in
     let held = entry (l .before) .held in
-    ap (λ (b : Bool). pick b (Held (counterIn (held .raw .body))) Nothing) (sym (not-true (held .some) (c .if2 .taken)))
-    ∙ let-in l _ (m .enum-told3 .given .1)
+    answers (l .before)
+    (ap (λ (b : Bool). pick b (Held (counterIn (held .raw .body))) Nothing) (sym (not-true (held .some) (c .if2 .taken)))
+    ∙ let-in l _ (m .enum-told3 .given .1))
 
 counter-of-requires : tie.Need-counter-of-requires
 counter-of-requires c κs = search needs
 
 returns-3 : tie.Need-returns-3
-returns-3 c = let-in (c .before .before .before) _ (c .enum-told .given .1)
+returns-3 c = let l = c .before .before .before in answers (l .before) (let-in l _ (c .enum-told .given .1))
 
 returns-4 : tie.Need-returns-4
-returns-4 c = let-in (c .before .before .before) _ (c .enum-told2 .given .1)
+returns-4 c = let l = c .before .before .before in answers (l .before) (let-in l _ (c .enum-told2 .given .1))
 
 returns-5 : tie.Need-returns-5
 returns-5 c =
@@ -93,9 +102,10 @@ returns-5 c =
     let m = e .before .before in
     let l = m .before .before .before in
     let held = entry (l .before) .held in
-    ap Held (c .counter-of .ensures)
+    answers (l .before)
+    (ap Held (c .counter-of .ensures)
     ∙ ap (λ (b : Bool). pick b (Held (counterIn (held .raw .body))) Nothing) (sym (not-false (held .some) (e .if2 .left)))
-    ∙ let-in l _ (m .enum-told3 .given .1)
+    ∙ let-in l _ (m .enum-told3 .given .1))
 
 pub get-spec : {M : Type 1} → statement M
 get-spec =

@@ -4,14 +4,17 @@ use mathlib.Core.Bool.{Bool, true, false}
 use borrow.Author.Tests.{not-true, not-false}
 use Rattle.basics.specs.Choice.{pick}
 use Rattle.basics.specs.Answers.{isDone}
+use Rattle.basics.proofs.SaysLaws.{and-says}
 use Rattle.ids.specs.Ids.{valueTag, isValue}
 use Rattle.bodies.specs.Bodies.{valueIn}
 use Rattle.records.specs.declared.State.{State}
 use Rattle.reads.specs.declared.Entry.{Entry}
+use Rattle.reads.specs.declared.Number.{Number}
 use Rattle.reads.specs.declared.Number.the-variants.{Refused, Nothing, Held}
 use Rattle.reads.specs.Entering.{entryOf}
-use Rattle.reads.specs.Reads.{numberBy, valueOf}
+use Rattle.reads.specs.Reads.{numberBy, valueOf, valueSays, numberSays}
 use Rattle.reads.proofs.EnteringLaws.{read-refused, read-by}
+use Rattle.reads.proofs.ReadsSays.{value-says}
 use borrow.Author.Needs.{needs}
 use Rattle.reads.proofs.held.value.Statement.{statement}
 use Rattle.reads.proofs.held.value.Tie as tie
@@ -36,6 +39,11 @@ module _ (d : tie.After-is-done) where
   unfolding valueOf
   by = read-by numberBy Refused (start-of .args .log) (isValue (start-of .args .id)) valueTag (start-of .args .id) entry is-entry
 
+  -- what is handed back is what is read, and so it says the same
+  answers : {r : Number} → r ≡ valueOf (start-of .args .log) (start-of .args .id)
+      → (r ≡ valueOf (start-of .args .log) (start-of .args .id)) × (numberSays r ≡ valueSays (start-of .args .log) (start-of .args .id))
+  answers = and-says numberSays (value-says (start-of .args .log) (start-of .args .id))
+
 let-in : (l : tie.Else1) (s : State) → start-of (l .before) .args .log .state ≡ s
     → numberBy s (entry (l .before) .held) ≡ valueOf (start-of (l .before) .args .log) (start-of (l .before) .args .id)
 let-in l s e =
@@ -53,7 +61,7 @@ is-done-requires : tie.Need-is-done-requires
 is-done-requires c κs = search needs
 
 returns : tie.Need-returns
-returns c = let d = c .before in refused d (sym (d .is-done .ensures) ∙ not-true (d .is-done .result) (c .if1 .taken))
+returns c = let d = c .before in answers d (refused d (sym (d .is-done .ensures) ∙ not-true (d .is-done .result) (c .if1 .taken)))
 
 enum-told : tie.Need-enum-told
 enum-told c = search needs
@@ -70,17 +78,18 @@ returns-2 c =
     let m = c .before .before in
     let l = m .before .before .before in
     let held = entry (l .before) .held in
-    ap (λ (b : Bool). pick b (Held (valueIn (held .raw .body))) Nothing) (sym (not-true (held .some) (c .if2 .taken)))
-    ∙ let-in l _ (m .enum-told3 .given .1)
+    answers (l .before)
+    (ap (λ (b : Bool). pick b (Held (valueIn (held .raw .body))) Nothing) (sym (not-true (held .some) (c .if2 .taken)))
+    ∙ let-in l _ (m .enum-told3 .given .1))
 
 value-of-requires : tie.Need-value-of-requires
 value-of-requires c κs = search needs
 
 returns-3 : tie.Need-returns-3
-returns-3 c = let-in (c .before .before .before) _ (c .enum-told .given .1)
+returns-3 c = let l = c .before .before .before in answers (l .before) (let-in l _ (c .enum-told .given .1))
 
 returns-4 : tie.Need-returns-4
-returns-4 c = let-in (c .before .before .before) _ (c .enum-told2 .given .1)
+returns-4 c = let l = c .before .before .before in answers (l .before) (let-in l _ (c .enum-told2 .given .1))
 
 returns-5 : tie.Need-returns-5
 returns-5 c =
@@ -88,9 +97,10 @@ returns-5 c =
     let m = e .before .before in
     let l = m .before .before .before in
     let held = entry (l .before) .held in
-    ap Held (c .value-of .ensures)
+    answers (l .before)
+    (ap Held (c .value-of .ensures)
     ∙ ap (λ (b : Bool). pick b (Held (valueIn (held .raw .body))) Nothing) (sym (not-false (held .some) (e .if2 .left)))
-    ∙ let-in l _ (m .enum-told3 .given .1)
+    ∙ let-in l _ (m .enum-told3 .given .1))
 
 pub value-spec : {M : Type 1} → statement M
 value-spec =

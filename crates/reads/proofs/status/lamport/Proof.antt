@@ -27,13 +27,13 @@ of-requires-2 : tie.Need-of-requires-2
 of-requires-2 c κs = search needs
 
 returns : tie.Need-returns
-returns c = c .refused .ensures ∙ ap lamportBy (sym (c .before .before .answer .given .1) ∙ c .before .before .before .before .value .ensures)
+returns c = c .refused .ensures ∙ ap lamportBy (sym (c .before .before .answer .given .1) ∙ c .before .before .before .before .value .ensures .0)
 
 returns-2 : tie.Need-returns-2
-returns-2 c = c .of .ensures ∙ ap lamportBy (sym (c .before .enum-told .given .1) ∙ c .before .before .before .value .ensures)
+returns-2 c = c .of .ensures ∙ ap lamportBy (sym (c .before .enum-told .given .1) ∙ c .before .before .before .value .ensures .0)
 
 returns-3 : tie.Need-returns-3
-returns-3 c = c .of2 .ensures ∙ ap lamportBy (sym (c .before .before .x .given .1) ∙ c .before .before .before .before .value .ensures)
+returns-3 c = c .of2 .ensures ∙ ap lamportBy (sym (c .before .before .x .given .1) ∙ c .before .before .before .before .value .ensures .0)
 
 pub lamport-spec : {M : Type 1} → statement M
 lamport-spec =
