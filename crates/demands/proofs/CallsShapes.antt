@@ -3,8 +3,6 @@ use mathlib.Core.Path.{_≡_}
 use mathlib.Core.Bool.{Bool, true}
 use mathlib.Core.List.{List}
 use Prim.Native.Nat.{ℕ, _+_}
-use Rattle.basics.specs.declared.Answer.{Answer}
-use Rattle.basics.specs.declared.Answer.the-variants.{Done, NotFormatted, ReadError}
 use Rattle.ids.specs.declared.Anchor.{Anchor}
 use Rattle.ids.specs.Ids.{counterTag, valueTag, lamport, isCredential, isValue}
 use Rattle.ids.specs.Counters.{oneMore, resetOf}
@@ -26,7 +24,7 @@ use Rattle.tries.specs.Tries.{startOf, spendDecision, spendOf, setDecision, set
 use Rattle.demands.specs.Seen.{Seen, seen}
 use Rattle.demands.specs.Calls.{Call, put, put-value, put-anchor, format, spend, set-tries, advance-lamport, outcomeOf, Typed}
 use Rattle.demands.specs.Calls.{NoEffect, recordOf, appendsTo}
-use Rattle.demands.specs.Demand1.{knownIn, byState, stateAnswer}
+use Rattle.demands.specs.Demand1.{knownIn, byState, stateNumber}
 use Rattle.demands.specs.Figures.{decisionOf}
 use Rattle.demands.proofs.CallsDeciding.{Decided, put-decided, value-decided, held-blank, Sound, put-sound, value-sound}
 use Rattle.demands.proofs.CallsTrying.{spend-decided, set-decided, advance-decided, spend-sound, set-sound, advance-sound}
@@ -35,7 +33,7 @@ use Rattle.demands.proofs.CallsTrying.{spend-decided, set-decided, adva
 pub record Shape : Type 1 where
   pub typed : Type 0
   pub known : Bool
-  pub by-state : State → Answer
+  pub by-state : State → ℕ
   pub decision : List Raw → Decision
   pub writes : List Raw → Raw
   pub appends : List ℕ → Log → Plan → State
@@ -46,7 +44,7 @@ abbrev pub shapeOf : Call → Shape
 shapeOf c = record {
   typed = Typed c;
   known = knownIn c;
-  by-state = stateAnswer c;
+  by-state = stateNumber c;
   decision = decisionOf c;
   writes = recordOf c;
   appends = appendsTo c;
@@ -59,7 +57,7 @@ abbrev pub keyed : Type 0 → Bool → (tag id : ℕ) → (OptRaw → Bool → D
 keyed typed known tag id d r = record {
   typed = typed;
   known = known;
-  by-state = byState NotFormatted ReadError Done;
+  by-state = byState 4 5 0;
   decision = λ t. d (heldOf tag id t) (roomFor tag id t);
   writes = r;
   appends = λ image log plan. log .state;

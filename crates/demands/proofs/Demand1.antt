@@ -1,5 +1,5 @@
 -- Demand 1: a call that fails a test is refused before anything else, and a write answers 0, 6 or 7 only. The calls that only read stand last.
-use mathlib.Core.Path.{_≡_, refl, sym, ap, _∙_}
+use mathlib.Core.Path.{_≡_, refl, sym, ap, subst, _∙_}
 use mathlib.Core.Bool.{Bool, true, false, false≢true}
 use mathlib.Core.List.{List, [], _∷_}
 use Prim.Native.Nat.{ℕ, zero, suc, _+_}
@@ -9,8 +9,9 @@ use borrow.Author.Tests.{eq-eqb}
 use Rattle.basics.specs.Choice.{pick}
 use Rattle.basics.specs.Lists.{same}
 use Rattle.basics.specs.Answers.{numberOf, isDone}
+use Rattle.basics.specs.Says.{saysRefused}
 use Rattle.basics.specs.declared.Answer.{Answer}
-use Rattle.basics.specs.declared.Answer.the-variants.{Done, BadImage, BadLog, BadId, NotFormatted, ReadError, WriteError}
+use Rattle.basics.specs.declared.Answer.the-variants.{Done, BadImage, BadLog, BadId, NotFormatted, WriteError}
 use Rattle.basics.proofs.ChoiceLaws.{by-test}
 use Rattle.codec.specs.declared.Raw.{Raw}
 use Rattle.codec.specs.Slots.{slotOf, headerSlot}
@@ -27,34 +28,38 @@ use Rattle.sectors.specs.Sectors.{onDone, writeRecords, writeSector}
 use Rattle.sectors.specs.Commits.{Written, sectorAfter, commitFrom}
 use Rattle.sectors.specs.Appends.{SlotTries, triesFrom, appendOf}
 use Rattle.reads.specs.Entering.{entryAnswer, heldOf, roomFor}
+use Rattle.reads.specs.declared.Counter.{Counter}
 use Rattle.reads.specs.declared.Counter.the-variants as counter
+use Rattle.reads.specs.declared.Number.{Number}
 use Rattle.reads.specs.declared.Number.the-variants as number
 use Rattle.reads.specs.declared.Anchored.the-variants as anchored
 use Rattle.reads.proofs.EnteringLaws.{answer-no-image, answer-bad-log, answer-bad-id, answer-done, turned-away, taken-in}
 use Rattle.reads.specs.Reads.{counterBy, getOf, numberBy, valueOf, anchorBy, anchorOf, toldOf, toldRefused, lamportBy, migrationBy, needsMigrationOf}
+use Rattle.reads.specs.Reads.{counterSays, numberSays, anchoredSays}
 use Rattle.decisions.specs.Outcomes.{Outcome, flashOf, refused, entered}
 use Rattle.ids.specs.declared.Anchor.{Anchor}
 use Rattle.ids.specs.Ids.{counterTag, valueTag, anchorTag, lamport as lamportId, isCredential, isValue}
 use Rattle.codec.specs.declared.OptRaw.{OptRaw}
 use Rattle.records.specs.Logs.{recordsOf, logOf}
+use Rattle.scan.specs.declared.Opened.{Opened}
 use Rattle.scan.specs.Opening.{scanOf, logFrom, openOf}
 use Rattle.decisions.specs.declared.Decision.{Decision}
 use Rattle.decisions.specs.Decisions.{whenActive}
 use Rattle.decisions.specs.Seeds.{seedsKnown, seedTable}
 use Rattle.decisions.specs.Performing.{performed, decided, formatted}
 use Rattle.log.specs.Calls.{isFirst, anchoredFirst, anchored as anchoredOn, formatOn, putAnchorOf, formatOf}
-use Rattle.tries.specs.Tries.{triesLeftBy, loadBy}
+use Rattle.tries.specs.Tries.{triesLeftBy, triesLeftSays, loadBy}
 use Rattle.demands.specs.Calls.{Call, outcomeOf, NoEffect}
 use Rattle.demands.specs.Seen.{Seen}
-use Rattle.demands.specs.Demand1.{leavesAll, knownIn, byState, stateAnswer, Refuses, Asked, get, get-value, remaining, anchor}
-use Rattle.demands.specs.Demand1.{lamport, needs-migration, load, replyOf, turnedAway, knownTo, stateReply, RefusesAsked}
+use Rattle.demands.specs.Demand1.{leavesAll, knownIn, byState, stateNumber, RefusedWith, Refuses, Asked, get, get-value, remaining, anchor}
+use Rattle.demands.specs.Demand1.{lamport, needs-migration, load, replyOf, saysNumber, toldSays, saysOf, turnedAway, knownTo, stateReply, RefusesAsked}
 use Rattle.demands.specs.Demand1.{Demand1Calls, Demand1Asked, Demand1Open}
 use Rattle.demands.proofs.CallsCourses.{Course, refusal, given, appends, formats, anchors, call-course}
 use Rattle.demands.proofs.CallsShapes.{Shape, by-kind}
 
 -- ---- a write answers 0, 6 or 7
 abbrev FromFlash : Answer → Type 0
-FromFlash a = leavesAll a ≡ false
+FromFlash a = leavesAll (numberOf a) ≡ false
 
 program-answers : (s k : ℕ) (new : List ℕ) (f : Flash) → FromFlash (program s k new f .answer)
 program-answers s k new f = go (program-outcome s k new f)
@@ -128,7 +133,8 @@ module _ (image : List ℕ) (log : Log) (plan : Plan) where
   abbrev f : Flash
   f = flashOf image plan
 
-  course-unchanged : (L : Seen → Type 0) (o : Outcome) → Course image log plan L o → leavesAll (o .answer) ≡ true → o ≡ refused (o .answer) log f
+  course-unchanged : (L : Seen → Type 0) (o : Outcome) → Course image log plan L o → leavesAll (numberOf (o .answer)) ≡ true
+      → o ≡ refused (o .answer) log f
   course-unchanged L o (refusal a k) e = refl
   course-unchanged L o (given value) e = absurd (false≢true e)
   course-unchanged L o (appends fits s seq head k r value room) e =
@@ -137,16 +143,25 @@ module _ (image : List ℕ) (log : Log) (plan : Plan) where
       absurd (false≢true (sym (commit-answers n n n 0 new WriteError Unformatted (log .«next_seq») f refl) ∙ e))
   course-unchanged L o (anchors may fits some k d s seq within z r value) e = absurd (false≢true (sym (append-answers n s seq 1 _ r _ _) ∙ e))
 
+  -- refused with a number, and by which answer
+  abbrev Refused : ℕ → Outcome → Type 0
+  Refused k o = (numberOf (o .answer) ≡ k) × (o ≡ refused (o .answer) log f)
+
+  refused-by : (a : Answer) (o : Outcome) → o ≡ refused a log f → Refused (numberOf a) o
+  refused-by a o e = let same = ap (λ (x : Outcome). x .answer) e in (ap numberOf same, e ∙ ap (λ (x : Answer). refused x log f) (sym same))
+
   entered-refuses : (known : Bool) (call : ℕ → Log → Flash → Outcome) (a : Answer) → entryAnswer n log known ≡ a → isDone a ≡ false
-      → entered image log plan known call ≡ refused a log f
+      → Refused (numberOf a) (entered image log plan known call)
   unfolding entered
   entered-refuses known call a e d =
-      ap (λ (x : Answer). pick (isDone x) (call n log f) (refused x log f)) e ∙ ap (λ (b : Bool). pick b (call n log f) (refused a log f)) d
+      refused-by a _
+      (ap (λ (x : Answer). pick (isDone x) (call n log f) (refused x log f)) e ∙ ap (λ (b : Bool). pick b (call n log f) (refused a log f)) d)
 
-  call-refuses : (c : Call) (a : Answer) → entryAnswer n log (knownIn c) ≡ a → isDone a ≡ false → outcomeOf c image log plan ≡ refused a log f
+  call-refuses : (c : Call) (a : Answer) → entryAnswer n log (knownIn c) ≡ a → isDone a ≡ false → RefusedWith c image log plan (numberOf a)
   unfolding putAnchorOf formatOf
   call-refuses =
-      by-kind (λ (x : Shape). (a : Answer) → entryAnswer n log (x .known) ≡ a → isDone a ≡ false → x .outcome image log plan ≡ refused a log f)
+      by-kind
+      (λ (x : Shape). (a : Answer) → entryAnswer n log (x .known) ≡ a → isDone a ≡ false → Refused (numberOf a) (x .outcome image log plan))
       (λ typed known tag id d r k. entered-refuses known (decided tag id d)) (λ new. entered-refuses true _)
       (λ seeds count. entered-refuses (seedsKnown seeds count) _)
 
@@ -156,49 +171,46 @@ module _ (image : List ℕ) (log : Log) (plan : Plan) where
     unfolding entered
     entered-on known call k = ap (λ (x : Answer). pick (isDone x) (call n log f) (refused x log f)) (answer-done n log known some fits k)
 
-    inactive : (d : Decision) (z : State) → isDone (byState NotFormatted ReadError Done z) ≡ false
-        → performed (whenActive z d) n log f ≡ refused (byState NotFormatted ReadError Done z) log f
+    entered-refused : (k : ℕ) (known : Bool) (call : ℕ → Log → Flash → Outcome) → known ≡ true → Refused k (call n log f)
+        → Refused k (entered image log plan known call)
+    entered-refused k known call e = subst (Refused k) (sym (entered-on known call e))
+
+    inactive : (d : Decision) (z : State) → (byState 4 5 0 z ≡ 0 → ⊥) → Refused (byState 4 5 0 z) (performed (whenActive z d) n log f)
     unfolding performed
-    inactive d Unformatted e = refl
-    inactive d Failed e = refl
-    inactive d (Active sector seq head) e = absurd (false≢true (sym e))
+    inactive d Unformatted e = (refl, refl)
+    inactive d Failed e = (refl, refl)
+    inactive d (Active sector seq head) e = absurd (e refl)
 
-    keyed-not-ready : (known : Bool) (tag id : ℕ) (d : OptRaw → Bool → Decision) → known ≡ true
-        → isDone (byState NotFormatted ReadError Done (log .state)) ≡ false
-        → entered image log plan known (decided tag id d) ≡ refused (byState NotFormatted ReadError Done (log .state)) log f
-    keyed-not-ready known tag id d k e =
-        entered-on known (decided tag id d) k ∙ inactive (d (heldOf tag id (recordsOf log)) (roomFor tag id (recordsOf log))) (log .state) e
+    format-not-ready : (t : List Raw) (z : State) → (byState 0 6 6 z ≡ 0 → ⊥) → Refused (byState 0 6 6 z) (formatOn z t n log f)
+    format-not-ready t Unformatted e = absurd (e refl)
+    format-not-ready t Failed e = (refl, refl)
+    format-not-ready t (Active sector seq head) e = (refl, refl)
 
-    format-not-ready : (t : List Raw) (z : State) → isDone (byState Done WriteError WriteError z) ≡ false
-        → formatOn z t n log f ≡ refused (byState Done WriteError WriteError z) log f
-    format-not-ready t Unformatted e = absurd (false≢true (sym e))
-    format-not-ready t Failed e = refl
-    format-not-ready t (Active sector seq head) e = refl
-
-    anchor-not-ready : (new : Anchor) (z : State) → isDone (byState (pick (isFirst new) Done NotFormatted) ReadError Done z) ≡ false
-        → anchoredOn z new n log f ≡ refused (byState (pick (isFirst new) Done NotFormatted) ReadError Done z) log f
+    anchor-not-ready : (new : Anchor) (z : State) → (byState (pick (isFirst new) 0 4) 5 0 z ≡ 0 → ⊥)
+        → Refused (byState (pick (isFirst new) 0 4) 5 0 z) (anchoredOn z new n log f)
     anchor-not-ready new Unformatted e = go (isFirst new) e
       where
-        go : (b : Bool) → isDone (pick b Done NotFormatted) ≡ false
-            → pick b (anchoredFirst new n (formatted [] n log f)) (refused NotFormatted log f) ≡ refused (pick b Done NotFormatted) log f
-        go true e = absurd (false≢true (sym e))
-        go false e = refl
-    anchor-not-ready new Failed e = refl
-    anchor-not-ready new (Active sector seq head) e = absurd (false≢true (sym e))
+        go : (b : Bool) → (pick {A = ℕ} b 0 4 ≡ 0 → ⊥)
+            → Refused (pick b 0 4) (pick b (anchoredFirst new n (formatted [] n log f)) (refused NotFormatted log f))
+        go true e = absurd (e refl)
+        go false e = (refl, refl)
+    anchor-not-ready new Failed e = (refl, refl)
+    anchor-not-ready new (Active sector seq head) e = absurd (e refl)
 
-    call-not-ready : (c : Call) → knownIn c ≡ true → isDone (stateAnswer c (log .state)) ≡ false
-        → outcomeOf c image log plan ≡ refused (stateAnswer c (log .state)) log f
+    call-not-ready : (c : Call) → knownIn c ≡ true → (stateNumber c (log .state) ≡ 0 → ⊥)
+        → RefusedWith c image log plan (stateNumber c (log .state))
     unfolding putAnchorOf formatOf
     call-not-ready =
         by-kind
-        (λ (x : Shape).
-        x .known ≡ true → isDone (x .by-state (log .state)) ≡ false
-        → x .outcome image log plan ≡ refused (x .by-state (log .state)) log f)
-        (λ typed known tag id d r m k e. keyed-not-ready known tag id d k e)
-        (λ new k e. entered-on true (λ (n : ℕ) (l : Log) (f : Flash). anchoredOn (l .state) new n l f) k ∙ anchor-not-ready new (log .state) e)
+        (λ (x : Shape). x .known ≡ true → (x .by-state (log .state) ≡ 0 → ⊥) → Refused (x .by-state (log .state)) (x .outcome image log plan))
+        (λ typed known tag id d r m k e.
+        entered-refused _ known (decided tag id d) k
+        (inactive (d (heldOf tag id (recordsOf log)) (roomFor tag id (recordsOf log))) (log .state) e))
+        (λ new k e.
+        entered-refused _ true (λ (n : ℕ) (l : Log) (f : Flash). anchoredOn (l .state) new n l f) k (anchor-not-ready new (log .state) e))
         (λ seeds count k e.
-        entered-on (seedsKnown seeds count) (λ (n : ℕ) (l : Log) (f : Flash). formatOn (l .state) (seedTable seeds count) n l f) k
-        ∙ format-not-ready (seedTable seeds count) (log .state) e)
+        entered-refused _ (seedsKnown seeds count) (λ (n : ℕ) (l : Log) (f : Flash). formatOn (l .state) (seedTable seeds count) n l f) k
+        (format-not-ready (seedTable seeds count) (log .state) e))
 
   refuses-all : (c : Call) → Refuses c image log plan
   refuses-all c = record {
@@ -219,50 +231,53 @@ module _ (log : Log) where
 
   -- 2 and 3; load tells them from 4 and 5 by their numbers
   asked-refused : (q : Asked) (a : Answer) → entryAnswer 16 log (knownTo q) ≡ a → isDone a ≡ false → leb 4 (numberOf a) ≡ false
-      → replyOf q log ≡ turnedAway q a
+      → saysOf q (replyOf q log) ≡ turnedAway q (numberOf a)
   unfolding getOf valueOf anchorOf needsMigrationOf
-  asked-refused (get credential) a e d low = turned-away counterBy counter.Refused log (isCredential credential) counterTag credential a e d
-  asked-refused (get-value id) a e d low = turned-away numberBy number.Refused log (isValue id) valueTag id a e d
+  asked-refused (get credential) a e d low =
+      ap counterSays (turned-away counterBy counter.Refused log (isCredential credential) counterTag credential a e d)
+  asked-refused (get-value id) a e d low = ap numberSays (turned-away numberBy number.Refused log (isValue id) valueTag id a e d)
   asked-refused (remaining credential) a e d low =
-      ap triesLeftBy (turned-away counterBy counter.Refused log (isCredential credential) counterTag credential a e d)
-  asked-refused anchor a e d low = turned-away anchorBy anchored.Refused log true anchorTag 0 a e d
-  asked-refused lamport a e d low = ap lamportBy (turned-away numberBy number.Refused log true valueTag lamportId a e d)
-  asked-refused needs-migration a e d low = turned-away migrationBy toldRefused log true anchorTag 0 a e d
+      ap (λ (x : Counter). triesLeftSays (triesLeftBy x))
+      (turned-away counterBy counter.Refused log (isCredential credential) counterTag credential a e d)
+  asked-refused anchor a e d low = ap anchoredSays (turned-away anchorBy anchored.Refused log true anchorTag 0 a e d)
+  asked-refused lamport a e d low =
+      ap (λ (x : Number). toldSays (lamportBy x)) (turned-away numberBy number.Refused log true valueTag lamportId a e d)
+  asked-refused needs-migration a e d low = ap toldSays (turned-away migrationBy toldRefused log true anchorTag 0 a e d)
   asked-refused (load credential exists fresh) a e d low =
-      ap (loadBy exists fresh) (ap triesLeftBy (turned-away counterBy counter.Refused log (isCredential credential) counterTag credential a e d))
-      ∙ ap (λ (b : Bool). pick b (toldOf 0) (toldRefused a)) low
+      ap (λ (x : Counter). toldSays (loadBy exists fresh (triesLeftBy x)))
+      (turned-away counterBy counter.Refused log (isCredential credential) counterTag credential a e d)
+      ∙ ap (λ (b : Bool). toldSays (pick b (toldOf 0) (toldRefused a))) low
 
-  by-counter : (z : State) (held : OptRaw) → isDone (byState NotFormatted ReadError Done z) ≡ false
-      → counterBy z held ≡ counter.Refused (byState NotFormatted ReadError Done z)
-  by-counter Unformatted held e = refl
-  by-counter Failed held e = refl
-  by-counter (Active sector seq head) held e = absurd (false≢true (sym e))
+  -- what is said of an Unformatted log, where that is a refusal, and of a Failed one
+  by-state : {A : Type 0} {k : ℕ} (says : State → A) (away : ℕ → A) (z : State) → (byState k 5 0 z ≡ 0 → ⊥) → says Unformatted ≡ away k
+      → says Failed ≡ away 5 → says z ≡ away (byState k 5 0 z)
+  by-state says away Unformatted e u v = u
+  by-state says away Failed e u v = v
+  by-state says away (Active sector seq head) e u v = absurd (e refl)
 
-  by-number : (z : State) (held : OptRaw) → isDone (byState NotFormatted ReadError Done z) ≡ false
-      → numberBy z held ≡ number.Refused (byState NotFormatted ReadError Done z)
-  by-number Unformatted held e = refl
-  by-number Failed held e = refl
-  by-number (Active sector seq head) held e = absurd (false≢true (sym e))
-
-  by-anchor : (z : State) (held : OptRaw) → isDone (byState Done ReadError Done z) ≡ false
-      → anchorBy z held ≡ anchored.Refused (byState Done ReadError Done z)
-  by-anchor Unformatted held e = absurd (false≢true (sym e))
-  by-anchor Failed held e = refl
-  by-anchor (Active sector seq head) held e = absurd (false≢true (sym e))
-
-  asked-not-ready : (q : Asked) → isDone (entryAnswer 16 log (knownTo q)) ≡ true → isDone (stateReply q (log .state)) ≡ false
-      → replyOf q log ≡ turnedAway q (stateReply q (log .state))
+  asked-not-ready : (q : Asked) → isDone (entryAnswer 16 log (knownTo q)) ≡ true → (stateReply q (log .state) ≡ 0 → ⊥)
+      → saysOf q (replyOf q log) ≡ turnedAway q (stateReply q (log .state))
   unfolding getOf valueOf anchorOf needsMigrationOf
   asked-not-ready (get credential) e d =
-      taken-in counterBy counter.Refused log (isCredential credential) counterTag credential e ∙ by-counter (log .state) _ d
-  asked-not-ready (get-value id) e d = taken-in numberBy number.Refused log (isValue id) valueTag id e ∙ by-number (log .state) _ d
+      ap counterSays (taken-in counterBy counter.Refused log (isCredential credential) counterTag credential e)
+      ∙ by-state (λ (z : State). counterSays (counterBy z (heldOf counterTag credential (recordsOf log)))) saysRefused (log .state) d refl refl
+  asked-not-ready (get-value id) e d =
+      ap numberSays (taken-in numberBy number.Refused log (isValue id) valueTag id e)
+      ∙ by-state (λ (z : State). numberSays (numberBy z (heldOf valueTag id (recordsOf log)))) saysRefused (log .state) d refl refl
   asked-not-ready (remaining credential) e d =
-      ap triesLeftBy
-      (taken-in counterBy counter.Refused log (isCredential credential) counterTag credential e ∙ by-counter (log .state) _ d)
-  asked-not-ready anchor e d = taken-in anchorBy anchored.Refused log true anchorTag 0 e ∙ by-anchor (log .state) _ d
-  asked-not-ready lamport e d = ap lamportBy (taken-in numberBy number.Refused log true valueTag lamportId e ∙ by-number (log .state) _ d)
-  asked-not-ready needs-migration e d = absurd (false≢true (sym d))
-  asked-not-ready (load credential exists fresh) e d = absurd (false≢true (sym d))
+      ap (λ (x : Counter). triesLeftSays (triesLeftBy x))
+      (taken-in counterBy counter.Refused log (isCredential credential) counterTag credential e)
+      ∙ by-state (λ (z : State). triesLeftSays (triesLeftBy (counterBy z (heldOf counterTag credential (recordsOf log))))) saysRefused (log .state) d
+      refl refl
+  asked-not-ready anchor e d =
+      ap anchoredSays (taken-in anchorBy anchored.Refused log true anchorTag 0 e)
+      ∙ by-state (λ (z : State). anchoredSays (anchorBy z (heldOf anchorTag 0 (recordsOf log)))) saysRefused (log .state) d refl refl
+  asked-not-ready lamport e d =
+      ap (λ (x : Number). toldSays (lamportBy x)) (taken-in numberBy number.Refused log true valueTag lamportId e)
+      ∙ by-state (λ (z : State). toldSays (lamportBy (numberBy z (heldOf valueTag lamportId (recordsOf log))))) (λ (k : ℕ). saysNumber k 0) (log .state) d
+      refl refl
+  asked-not-ready needs-migration e d = absurd (d refl)
+  asked-not-ready (load credential exists fresh) e d = absurd (d refl)
 
   asked-all : (q : Asked) → RefusesAsked q log
   asked-all q = record {
@@ -278,7 +293,9 @@ demand-1-asked q log = asked-all log q
 pub demand-1-open : Demand1Open
 unfolding openOf
 demand-1-open image e =
+    let same : openOf image ≡ record { answer = BadImage; log = logOf Failed 1 [] } =
     ap
     (λ (b : Bool).
     pick b (record { answer = BadImage; log = logOf Failed 1 [] }) (record { answer = Done; log = logFrom (scanOf 2 image) }))
-    (eq-eqb (sectorsIn (length image)) 0 e)
+    (eq-eqb (sectorsIn (length image)) 0 e) in
+    (ap (λ (o : Opened). numberOf (o .answer)) same, ap (λ (o : Opened). o .log) same)
