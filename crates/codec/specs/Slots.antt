@@ -13,6 +13,10 @@ use Rattle.codec.specs.declared.OptRaw.{OptRaw}
 use Rattle.codec.specs.declared.Header.{Header}
 use Rattle.codec.specs.declared.Header.the-variants.{Valid, Invalid}
 
+-- "A sector has 256 slots of 16 bytes."
+abbrev pub slotSize : ℕ
+slotSize = 16
+
 -- "12..15 CRC": twelve bytes, and their checksum behind them
 abbrev pub sealed : ℕ → List ℕ → List ℕ
 sealed check bytes = bytes ++ leBytes 4 check
@@ -39,7 +43,7 @@ magicAt slot = same (take 4 slot) magic
 
 abbrev pub isHeader : ℕ → List ℕ → Bool
 isHeader version slot =
-    eqb (length slot) 16 && (magicAt slot && (eqb (getD slot 8 0) version && eqb (crc32Of (take 12 slot)) (crcIn slot)))
+    eqb (length slot) slotSize && (magicAt slot && (eqb (getD slot 8 0) version && eqb (crc32Of (take 12 slot)) (crcIn slot)))
 
 unfoldable pub headerOf : ℕ → List ℕ → Header
 headerOf version slot = pick (isHeader version slot) (Valid (leNumber (part 4 4 slot))) Invalid
@@ -65,7 +69,7 @@ slotOf seq r = sealed (crcUnder seq (bytesOf r)) (bytesOf r)
 
 -- "A record is valid when byte 0 isn't FF and its CRC matches": the checksum of bytes 0..11 is handed in
 abbrev pub isRecordWith : ℕ → List ℕ → Bool
-isRecordWith check slot = eqb (length slot) 16 && (not (eqb (getD slot 0 0) 0xFF) && eqb check (crcIn slot))
+isRecordWith check slot = eqb (length slot) slotSize && (not (eqb (getD slot 0 0) 0xFF) && eqb check (crcIn slot))
 
 -- "tag, id and body 2..11 are held as read, known or not"
 abbrev pub some : Raw → OptRaw

@@ -1,11 +1,12 @@
 // A sector's header as a slot, both ways.
 // What it holds is its magic, the sector's seq and the version of the format.
 use crate::Header;
+use crate::SLOT;
 use crate::checksum;
 use crate::seal;
 ghost use mathlib.Core.Path.{_≡_};
 ghost use lib.ListN.{length};
-ghost use Rattle.codec.specs.Slots.{headerBytes, headerSlot, magicAt, headerOf};
+ghost use Rattle.codec.specs.Slots.{slotSize, headerBytes, headerSlot, magicAt, headerOf};
 
 // The twelve bytes in front of a header's checksum: magic, seq, version, zeros.
 fn header_bytes(seq: u32) -> [u8; 12]
@@ -30,7 +31,7 @@ fn header_bytes(seq: u32) -> [u8; 12]
 }
 
 // The header of a sector with this seq, as a slot.
-pub fn encode_header(seq: u32) -> [u8; 16]
+pub fn encode_header(seq: u32) -> [u8; SLOT]
     ensures { λ r. ⌜ r ≡ headerSlot seq ⌝ }
 {
     let b = header_bytes(seq);
@@ -39,7 +40,7 @@ pub fn encode_header(seq: u32) -> [u8; 16]
 
 // Whether a slot begins with the four bytes P2RC.
 fn has_magic(slot: &[u8]) -> bool
-    requires { ⌜ length (now slot) ≡ 16 ⌝ }
+    requires { ⌜ length (now slot) ≡ slotSize ⌝ }
     ensures { λ r. ⌜ r ≡ magicAt (now (slot .entry)) ⌝ }
 {
     let m = *b"P2RC";
@@ -59,7 +60,7 @@ fn has_magic(slot: &[u8]) -> bool
 pub fn decode_header(slot: &[u8], version: u8) -> Header
     ensures { λ r. ⌜ r ≡ headerOf version (now (slot .entry)) ⌝ }
 {
-    if slot.len() != 16 {
+    if slot.len() != SLOT {
         return Header::Invalid;
     }
     if !has_magic(slot) {

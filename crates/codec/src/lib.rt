@@ -36,6 +36,9 @@ pub enum Header {
     Invalid,
 }
 
+// The bytes of a slot.
+pub const SLOT: usize = 16;
+
 // The version that headers are written with.
 pub const FORMAT_VERSION: u8 = 2;
 

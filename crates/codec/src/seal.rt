@@ -1,9 +1,10 @@
 // A slot sealed: its checksum put behind its first twelve bytes. The checksum itself is worked out in checksum.
+use crate::SLOT;
 ghost use mathlib.Core.Path.{_≡_};
 ghost use Rattle.codec.specs.Slots.{sealed};
 
 // Twelve bytes with their checksum behind them.
-pub fn seal(b: [u8; 12], check: u32) -> [u8; 16]
+pub fn seal(b: [u8; 12], check: u32) -> [u8; SLOT]
     ensures { λ r. ⌜ r ≡ sealed check b ⌝ }
 {
     let c = basics::bytes4(check);

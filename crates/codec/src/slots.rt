@@ -2,11 +2,12 @@
 // What isn't a record reads as none.
 use crate::OptRaw;
 use crate::Raw;
+use crate::SLOT;
 use crate::checksum;
 use crate::seal;
 ghost use mathlib.Core.Path.{_≡_};
 ghost use lib.ListN.{length, take};
-ghost use Rattle.codec.specs.Slots.{crcFrom, sealed, bytesOf, slotOf, rawOf, decodedWith, decoded, none};
+ghost use Rattle.codec.specs.Slots.{slotSize, crcFrom, sealed, bytesOf, slotOf, rawOf, decodedWith, decoded, none};
 
 // No record, beside a record of zeros.
 fn nothing() -> OptRaw
@@ -21,7 +22,7 @@ fn nothing() -> OptRaw
 
 // The record that a slot's first twelve bytes spell.
 fn from_slot(s: &[u8]) -> Raw
-    requires { ⌜ length (now s) ≡ 16 ⌝ }
+    requires { ⌜ length (now s) ≡ slotSize ⌝ }
     ensures { λ r. ⌜ r ≡ rawOf (now (s .entry)) ⌝ }
 {
     Raw {
@@ -53,7 +54,7 @@ fn bytes(record: Raw) -> [u8; 12]
 }
 
 // The record's slot, from the register that the sector's seq left.
-pub fn encode_from(record: Raw, start: u32) -> [u8; 16]
+pub fn encode_from(record: Raw, start: u32) -> [u8; SLOT]
     ensures { λ r. ⌜ r ≡ sealed (crcFrom start (bytesOf «record»)) (bytesOf «record») ⌝ }
 {
     let b = bytes(record);
@@ -61,7 +62,7 @@ pub fn encode_from(record: Raw, start: u32) -> [u8; 16]
 }
 
 // The record's slot in a sector with this seq.
-pub fn encode(record: Raw, seq: u32) -> [u8; 16]
+pub fn encode(record: Raw, seq: u32) -> [u8; SLOT]
     ensures { λ r. ⌜ r ≡ slotOf seq «record» ⌝ }
 {
     encode_from(record, checksum::under(seq))
@@ -71,7 +72,7 @@ pub fn encode(record: Raw, seq: u32) -> [u8; 16]
 pub fn decode_from(slot: &[u8], start: u32) -> OptRaw
     ensures { λ r. ⌜ r ≡ decodedWith (crcFrom start (take 12 (now (slot .entry)))) (now (slot .entry)) ⌝ }
 {
-    if slot.len() != 16 {
+    if slot.len() != SLOT {
         return nothing();
     }
     if slot[0] == 0xFF {
