@@ -9,8 +9,9 @@ use Rattle.basics.specs.Choice.{pick}
 use Rattle.basics.specs.Lists.{same, allAre}
 use Rattle.basics.specs.declared.Answer.{Answer}
 use Rattle.basics.specs.declared.Answer.the-variants.{Done, WriteError, EraseError}
+use Rattle.codec.specs.Slots.{slotSize}
 use Rattle.flash.specs.declared.Plan.{Plan}
-use Rattle.flash.specs.Image.{slotAt, sectorAt, withSlot, withSector}
+use Rattle.flash.specs.Image.{sectorSize, slotAt, sectorAt, withSlot, withSector}
 use Rattle.flash.specs.Power.{toProgram, afterProgram, programCut, toErase, afterErase, eraseCut}
 
 pub record Flash : Type 0 where
@@ -34,7 +35,7 @@ landed (suc n) (x ∷ new) (o ∷ old) = bitAnd o x ∷ landed n new old
 
 -- "with no unit left it stops with 6"; "read it back (another content is a failure, 6)"
 abbrev pub programAnswer : ℕ → List ℕ → List ℕ → Answer
-programAnswer n new found = pick (ltb n 16) WriteError (pick (same found new) Done WriteError)
+programAnswer n new found = pick (ltb n slotSize) WriteError (pick (same found new) Done WriteError)
 
 -- program slot k of sector s, and read it back
 unfoldable pub program : ℕ → ℕ → List ℕ → Flash → Stepped
@@ -58,7 +59,7 @@ blanked n old = replicate n 0xFF ++ drop n old
 
 -- "with no unit left it stops with 7"; then "check all erased"
 abbrev pub eraseAnswer : ℕ → List ℕ → Answer
-eraseAnswer n found = pick (ltb n 4096) EraseError (pick (allAre 0xFF found) Done EraseError)
+eraseAnswer n found = pick (ltb n sectorSize) EraseError (pick (allAre 0xFF found) Done EraseError)
 
 -- erase sector s, and check that all of it is erased
 unfoldable pub erase : ℕ → Flash → Stepped

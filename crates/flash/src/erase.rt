@@ -5,7 +5,7 @@ use basics::Answer;
 ghost use mathlib.Core.Path.{_≡_};
 ghost use Prim.Native.Nat.{_+_, _*_, _≤_};
 ghost use lib.ListN.{length};
-ghost use Rattle.flash.specs.Image.{sectorAt, withSector};
+ghost use Rattle.flash.specs.Image.{sectorSize, sectorAt, withSector};
 ghost use Rattle.flash.specs.Run.{blanked, eraseAnswer};
 
 // The first n bytes become FF.
@@ -22,7 +22,7 @@ fn blank(part: &mut [u8], n: usize)
 
 // Erase n bytes of a sector, and check all of it where that is all of it.
 pub fn erase_sector(image: &mut [u8], sector: usize, n: usize) -> Answer
-    requires { ⌜ (n ≤ 4096) × (sector * 4096 + 4096 ≤ length (now image)) ⌝ }
+    requires { ⌜ (n ≤ sectorSize) × (sector * sectorSize + sectorSize ≤ length (now image)) ⌝ }
     ensures { λ r. ⌜ (r ≡ eraseAnswer n (blanked n (sectorAt (now (image .entry)) sector)))
         × (now (image .exit) ≡ withSector sector (blanked n (sectorAt (now (image .entry)) sector)) (now (image .entry))) ⌝ }
 {
