@@ -8,6 +8,7 @@ use Rattle.basics.specs.Choice.{pick}
 use Rattle.basics.specs.Lists.{allAre}
 use Rattle.codec.specs.declared.Raw.{Raw}
 use Rattle.codec.specs.Slots.{noRaw}
+use Rattle.flash.specs.Image.{slotCount}
 use Rattle.records.specs.declared.State.{State}
 use Rattle.records.specs.declared.State.the-variants.{Unformatted, Failed, Active}
 use Rattle.records.specs.declared.Log.{Log}
@@ -18,12 +19,16 @@ use Rattle.records.specs.declared.fitting.Looked.{Looked}
 abbrev pub seqMax : ℕ
 seqMax = 4294967295
 
+-- the head of a full sector: one past its last slot
+abbrev pub headMax : ℕ
+headMax = slotCount
+
 -- "Active sector not below n; head outside 1..256; next_seq ≤ seq unless it is the maximum; records while not Active"
 abbrev pub stateFits : ℕ → State → ℕ → ℕ → Bool
 stateFits n Unformatted next count = eqb count 0
 stateFits n Failed next count = eqb count 0
 stateFits n (Active sector seq head) next count =
-    ltb sector n && ((leb 1 head && leb head 256) && (ltb seq next || eqb next seqMax))
+    ltb sector n && ((leb 1 head && leb head headMax) && (ltb seq next || eqb next seqMax))
 
 -- "a place past the count that isn't zeros"
 abbrev pub isZeros : Raw → Bool

@@ -11,6 +11,9 @@ ghost use Rattle.records.specs.Surveys.{misfitted};
 // The highest sequence number that a sector can have.
 pub const SEQ_MAX: u32 = 4_294_967_295;
 
+// The head of a full sector: one past its last slot.
+pub const HEAD_MAX: u32 = 256;
+
 // What a look finds: where the log fits, the place of the key, or the count, and the record there.
 pub struct Looked {
     pub fits: bool,
@@ -42,7 +45,7 @@ pub fn state_fits(state: State, next_seq: u32, count: usize, sectors: usize) -> 
             if head < 1 {
                 return false;
             }
-            if 256 < head {
+            if HEAD_MAX < head {
                 return false;
             }
             if seq < next_seq {

@@ -5,6 +5,7 @@ mod fitting; // the tests of number 2 on the state, and on the places past the c
 mod survey; // one pass over the records: whether their keys fit, and where one key stands
 mod lookup; // all of number 2, and the place of a key
 
+pub use fitting::HEAD_MAX;
 pub use fitting::Looked;
 pub use fitting::SEQ_MAX;
 pub use lookup::look;
