@@ -18,6 +18,7 @@ use records::State;
 ghost use mathlib.Core.Path.{_≡_};
 ghost use Prim.Native.Nat.{_*_, _≤_};
 ghost use lib.ListN.{length};
+ghost use Rattle.flash.specs.Image.{sectorSize, sectorsMost};
 ghost use Rattle.scan.specs.Choosing.{better, chosenOf};
 ghost use Rattle.scan.specs.Opening.{nextOf};
 
@@ -70,7 +71,7 @@ fn better_of(best: Chosen, sector: usize, header: Header) -> Chosen
 
 // The valid header with the highest seq; among equals, the lowest sector.
 fn choose(image: &[u8], sectors: usize, version: u8) -> Chosen
-    requires { ⌜ (sectors ≤ 16) × (sectors * 4096 ≤ length (now image)) ⌝ }
+    requires { ⌜ (sectors ≤ sectorsMost) × (sectors * sectorSize ≤ length (now image)) ⌝ }
     ensures { λ r. ⌜ r ≡ chosenOf version sectors (now (image .entry)) ⌝ }
 {
     let mut best = Chosen::Nothing;

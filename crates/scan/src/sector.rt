@@ -1,18 +1,19 @@
 // One pass over the slots of the sector that won: its records, and where the next one goes.
 use crate::RegionScan;
+use flash::SLOTS;
 use records::LIMIT;
 use records::State;
 ghost use mathlib.Core.Path.{_≡_};
 ghost use mathlib.Core.List.{[]};
 ghost use Prim.Native.Nat.{_+_, _*_, _≤_, _<_};
 ghost use lib.ListN.{length};
-ghost use Rattle.flash.specs.Image.{slotAt};
+ghost use Rattle.flash.specs.Image.{sectorSize, sectorsMost, slotAt};
 ghost use Rattle.scan.specs.Reading.{recordsIn, headIn};
 ghost use Rattle.scan.specs.Opening.{regionOf, regionRead};
 
 // One pass over the slots of a sector: the records, and one past the last slot that isn't erased.
 pub fn scan_sector(image: &[u8], sector: usize, seq: u32) -> RegionScan
-    requires { ⌜ (sector < 16) × (sector * 4096 + 4096 ≤ length (now image)) ⌝ }
+    requires { ⌜ (sector < sectorsMost) × (sector * sectorSize + sectorSize ≤ length (now image)) ⌝ }
     ensures { λ r. ⌜ r ≡ regionRead sector seq (headIn (slotAt (now (image .entry)) sector)) (recordsIn seq (slotAt (now (image .entry)) sector)) ⌝ }
 {
     let start = codec::under(seq);
@@ -22,7 +23,7 @@ pub fn scan_sector(image: &[u8], sector: usize, seq: u32) -> RegionScan
     let mut count: usize = 0;
     let mut head: u32 = 1;
     let mut k: usize = 1;
-    while k < 256 {
+    while k < SLOTS {
         let slot = flash::slot(image, sector, k);
         k += 1;
         if codec::is_erased(slot) {
