@@ -6,19 +6,22 @@ use crate::Wrote;
 use crate::commits;
 use basics::Answer;
 use codec::Raw;
+use codec::SLOT;
+use records::HEAD_MAX;
 use records::LIMIT;
 use records::State;
 ghost use mathlib.Core.Bool.{Bool};
 ghost use Prim.Native.Nat.{_≤_};
 ghost use lib.ListN.{length, take};
 ghost use Rattle.basics.specs.declared.Answer.the-variants.{WriteError};
+ghost use Rattle.records.specs.Fitting.{headMax};
 ghost use Rattle.sectors.specs.Asks.{HasSector, SlotsMore, CanAppend};
 ghost use Rattle.sectors.specs.Appends.{triesFrom, appendOf};
 ghost use Rattle.sectors.specs.Shown.{flashWith, ShowsWrote, ShowsTried};
 
 // Up to three tries of a slot, each in a new place; `full` where head reaches 256 first.
-fn try_slots(image: &mut [u8], sector: usize, head: u32, bytes: [u8; 16], used: Used) -> Tried
-    requires { ⌜ (head ≤ 256) × HasSector (length (now image)) sector × SlotsMore 3 used ⌝ }
+fn try_slots(image: &mut [u8], sector: usize, head: u32, bytes: [u8; SLOT], used: Used) -> Tried
+    requires { ⌜ (head ≤ headMax) × HasSector (length (now image)) sector × SlotsMore 3 used ⌝ }
     ensures { λ r. ⌜ ((cut : Bool)
         → ShowsTried (triesFrom 3 sector head bytes WriteError (flashWith (now (image .entry)) used cut)) r (now (image .exit))) ⌝ }
 {
@@ -27,7 +30,7 @@ fn try_slots(image: &mut [u8], sector: usize, head: u32, bytes: [u8; 16], used: 
     let mut u = used;
     let mut left: u32 = 3;
     while 0 < left {
-        if h == 256 {
+        if h == HEAD_MAX {
             return Tried {
                 full: true,
                 answer: answer,

@@ -10,11 +10,13 @@ pub use commits::commit;
 
 // What stands here uses:
 use basics::Answer;
+use codec::SLOT;
 use flash::Plan;
 use records::State;
 ghost use mathlib.Core.Bool.{Bool};
 ghost use Prim.Native.Nat.{_<_};
 ghost use lib.ListN.{length};
+ghost use Rattle.flash.specs.Image.{slotCount};
 ghost use Rattle.flash.specs.Run as run;
 ghost use Rattle.sectors.specs.Asks.{HasSector, SlotsMore, SectorsMore};
 ghost use Rattle.sectors.specs.Shown.{flashWith, ShowsStep};
@@ -49,8 +51,8 @@ struct Tried {
 }
 
 // Programs a slot and reads it back.
-pub fn program(image: &mut [u8], sector: usize, slot: usize, bytes: [u8; 16], used: Used) -> Step
-    requires { ⌜ (slot < 256) × HasSector (length (now image)) sector × SlotsMore 1 used ⌝ }
+pub fn program(image: &mut [u8], sector: usize, slot: usize, bytes: [u8; SLOT], used: Used) -> Step
+    requires { ⌜ (slot < slotCount) × HasSector (length (now image)) sector × SlotsMore 1 used ⌝ }
     ensures { λ r. ⌜ ((cut : Bool) → ShowsStep (run.program sector slot bytes (flashWith (now (image .entry)) used cut)) r (now (image .exit))) ⌝ }
 {
     let plan = used.plan;
