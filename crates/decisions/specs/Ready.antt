@@ -8,6 +8,7 @@ use Rattle.basics.specs.Choice.{pick}
 use Rattle.basics.specs.Answers.{isDone}
 use Rattle.basics.specs.declared.Answer.{Answer}
 use Rattle.codec.specs.declared.Raw.{Raw}
+use Rattle.flash.specs.Image.{sectorSize, sectorsMost}
 use Rattle.flash.specs.Run.{Flash}
 use Rattle.records.specs.declared.Log.{Log}
 use Rattle.records.specs.Table.{limit, placeOf}
@@ -47,8 +48,8 @@ finishedOf w value log table count =
 
 -- an image of n sectors, a log that fits it, and counts that can grow by an append
 pub record FitToWrite (len n : ℕ) (log : Log) (used : Used) : Type 0 where
-  pub few : n ≤ 16
-  pub sized : n * 4096 ≤ len
+  pub few : n ≤ sectorsMost
+  pub sized : n * sectorSize ≤ len
   pub fits : logFits n log ≡ true
   pub slots : SlotsMore (3 + n * (limit + 1)) used
   pub erases : SectorsMore n used
