@@ -4,14 +4,14 @@ use mathlib.Core.List.{List, _++_}
 use Prim.Native.Nat.{ℕ, _-_, _≤_, _<_}
 use lib.ListN.{take, replicate}
 use Rattle.codec.specs.declared.Raw.{Raw}
-use Rattle.codec.specs.Slots.{crcUnder, slotOf}
-use Rattle.flash.specs.Image.{slotAt}
+use Rattle.codec.specs.Slots.{slotSize, crcUnder, slotOf}
+use Rattle.flash.specs.Image.{slotCount, slotAt}
 use Rattle.records.specs.declared.State.{State}
 use Rattle.records.specs.declared.State.the-variants.{Unformatted, Failed, Active}
 
 -- "the slot's first k bytes followed by FF"
 abbrev pub cutAt : ℕ → List ℕ → List ℕ
-cutAt k slot = take k slot ++ replicate (16 - k) 0xFF
+cutAt k slot = take k slot ++ replicate (slotSize - k) 0xFF
 
 -- "for k from 1 to 11, the slot's first k bytes followed by FF have CRC FFFFFFFF under the sector's seq, and differ from the whole slot"
 pub record ChanceMatch (seq : ℕ) (slot : List ℕ) : Type 0 where
@@ -26,4 +26,4 @@ abbrev pub Unmatched : State → Raw → List ℕ → Type 0
 Unmatched Unformatted r left = Unit {0}
 Unmatched Failed r left = Unit {0}
 Unmatched (Active sector seq head) r left =
-    (h : ℕ) → head ≤ h → h < 256 → (m : ChanceMatch seq (slotOf seq r)) → slotAt left sector h ≡ cutAt (m .k) (slotOf seq r) → ⊥
+    (h : ℕ) → head ≤ h → h < slotCount → (m : ChanceMatch seq (slotOf seq r)) → slotAt left sector h ≡ cutAt (m .k) (slotOf seq r) → ⊥

@@ -7,12 +7,13 @@ use lib.ListN.{length}
 use Rattle.basics.specs.declared.Answer.the-variants.{Done}
 use Rattle.ids.specs.Ids.{counterTag, valueTag, anchorTag, lamport}
 use Rattle.codec.specs.declared.Raw.{Raw}
-use Rattle.flash.specs.Image.{sectorsIn}
+use Rattle.codec.specs.Slots.{slotSize}
+use Rattle.flash.specs.Image.{sectorSize, sectorsIn}
 use Rattle.records.specs.declared.State.the-variants.{Unformatted, Active}
 use Rattle.records.specs.declared.Log.{Log}
 use Rattle.records.specs.Table.{joined}
 use Rattle.records.specs.Logs.{logOf, recordsOf}
-use Rattle.records.specs.Fitting.{seqMax}
+use Rattle.records.specs.Fitting.{seqMax, headMax}
 use Rattle.sectors.specs.Commits.{sectorAfter}
 use Rattle.decisions.specs.declared.Decision.{Decision}
 use Rattle.decisions.specs.Decisions.{give, putDecision, valueDecision, anchorDecision}
@@ -51,22 +52,22 @@ newTable c log = joined (decisionOf c (recordsOf log) .rec) (recordsOf log)
 
 -- a call that decides to write a record, on a flash that refuses nothing
 pub record WritesWell (c : Call) (image : List ℕ) (log : Log) : Type 0 where
-  pub append : knownIn c ≡ true → (s seq head : ℕ) → log .state ≡ Active s seq head → decisionOf c (recordsOf log) .write ≡ true → head < 256
-      → Reports (decisionOf c (recordsOf log) .value) (logOf (Active s seq (head + 1)) (log .«next_seq») (newTable c log)) 16 0
+  pub append : knownIn c ≡ true → (s seq head : ℕ) → log .state ≡ Active s seq head → decisionOf c (recordsOf log) .write ≡ true → head < headMax
+      → Reports (decisionOf c (recordsOf log) .value) (logOf (Active s seq (head + 1)) (log .«next_seq») (newTable c log)) slotSize 0
       (outcomeOf c image log healthy)
   pub commit : knownIn c ≡ true → (s seq head : ℕ) → log .state ≡ Active s seq head → decisionOf c (recordsOf log) .write ≡ true
-      → head ≡ 256 → 1 < sectorsIn (length image) → (log .«next_seq» ≡ seqMax → ⊥)
+      → head ≡ headMax → 1 < sectorsIn (length image) → (log .«next_seq» ≡ seqMax → ⊥)
       → Reports (decisionOf c (recordsOf log) .value)
       (logOf (Active (sectorAfter (sectorsIn (length image)) s) (log .«next_seq») (length (newTable c log) + 1)) (log .«next_seq» + 1)
       (newTable c log))
-      (16 * (length (newTable c log) + 1)) 4096 (outcomeOf c image log healthy)
+      (slotSize * (length (newTable c log) + 1)) sectorSize (outcomeOf c image log healthy)
 
 -- a format on one
 abbrev pub FormatsWell : List Seed → ℕ → List ℕ → Log → Type 0
 FormatsWell seeds count image log =
     knownIn (format seeds count) ≡ true → log .state ≡ Unformatted → (log .«next_seq» ≡ seqMax → ⊥)
     → Reports 0 (logOf (Active 0 (log .«next_seq») (length (seedTable seeds count) + 1)) (log .«next_seq» + 1) (seedTable seeds count))
-    (16 * (length (seedTable seeds count) + 1)) 4096 (outcomeOf (format seeds count) image log healthy)
+    (slotSize * (length (seedTable seeds count) + 1)) sectorSize (outcomeOf (format seeds count) image log healthy)
 
 -- ---- the statements: on the log and image of any session while power lasts
 abbrev pub HealthyWrites : Type 0

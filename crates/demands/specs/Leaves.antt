@@ -6,7 +6,7 @@ use mathlib.Core.Logic.{_⊎_}
 use Prim.Native.Nat.{ℕ, _≤_, _<_}
 use Rattle.basics.specs.Answers.{isDone}
 use Rattle.flash.specs.declared.Plan.{Plan}
-use Rattle.flash.specs.Image.{slotAt}
+use Rattle.flash.specs.Image.{slotCount, slotAt}
 use Rattle.records.specs.declared.State.the-variants.{Active}
 use Rattle.records.specs.declared.Log.{Log}
 use Rattle.records.specs.Logs.{recordsOf}
@@ -18,7 +18,7 @@ use Rattle.demands.specs.Calls.{Call, NoEffect, outcomeOf}
 pub record Spares (s seq head : ℕ) (image : List ℕ) (o : Outcome) : Type 0 where
   pub head-now : ℕ
   pub state-is : o .log .state ≡ Active s seq head-now
-  pub bytes : (i : ℕ) → i < 256 → (i < head) ⊎ (head-now ≤ i) → slotAt (o .flash .image) s i ≡ slotAt image s i
+  pub bytes : (i : ℕ) → i < slotCount → (i < head) ⊎ (head-now ≤ i) → slotAt (o .flash .image) s i ≡ slotAt image s i
 
 -- what a call that failed leaves of an image and a log
 pub record Leaves (c : Call) (image : List ℕ) (log : Log) (o : Outcome) : Type 0 where
