@@ -2,6 +2,7 @@
 use crate::LIMIT;
 use crate::State;
 use codec::Raw;
+use flash::SLOTS;
 ghost use mathlib.Core.Path.{_≡_};
 ghost use lib.Dec.{eqb};
 ghost use lib.ListN.{drop};
@@ -12,7 +13,7 @@ ghost use Rattle.records.specs.Surveys.{misfitted};
 pub const SEQ_MAX: u32 = 4_294_967_295;
 
 // The head of a full sector: one past its last slot.
-pub const HEAD_MAX: u32 = 256;
+pub const HEAD_MAX: u32 = SLOTS as u32;
 
 // What a look finds: where the log fits, the place of the key, or the count, and the record there.
 pub struct Looked {
