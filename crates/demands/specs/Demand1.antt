@@ -14,7 +14,7 @@ use Rattle.ids.specs.declared.CounterState.{CounterState}
 use Rattle.ids.specs.declared.Anchor.{Anchor}
 use Rattle.ids.specs.Ids.{isCredential, isValue}
 use Rattle.flash.specs.declared.Plan.{Plan}
-use Rattle.flash.specs.Image.{sectorsIn}
+use Rattle.flash.specs.Image.{sectorsMost, sectorsIn}
 use Rattle.records.specs.declared.State.{State}
 use Rattle.records.specs.declared.State.the-variants.{Unformatted, Failed, Active}
 use Rattle.records.specs.declared.Log.{Log}
@@ -163,9 +163,9 @@ stateReply (load credential exists fresh) z = 0
 
 -- "Calls that only read the log take no image; for them the sector must be below 16."
 pub record RefusesAsked (q : Asked) (log : Log) : Type 0 where
-  pub bad-log : logFits 16 log ≡ false → saysOf q (replyOf q log) ≡ turnedAway q 2
-  pub bad-id : logFits 16 log ≡ true → knownTo q ≡ false → saysOf q (replyOf q log) ≡ turnedAway q 3
-  pub not-ready : logFits 16 log ≡ true → knownTo q ≡ true → (stateReply q (log .state) ≡ 0 → ⊥)
+  pub bad-log : logFits sectorsMost log ≡ false → saysOf q (replyOf q log) ≡ turnedAway q 2
+  pub bad-id : logFits sectorsMost log ≡ true → knownTo q ≡ false → saysOf q (replyOf q log) ≡ turnedAway q 3
+  pub not-ready : logFits sectorsMost log ≡ true → knownTo q ≡ true → (stateReply q (log .state) ≡ 0 → ⊥)
       → saysOf q (replyOf q log) ≡ turnedAway q (stateReply q (log .state))
 
 -- ---- opening: "1 BadImage: open gives a Failed log with no records and next_seq 1"

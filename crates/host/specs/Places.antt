@@ -9,13 +9,13 @@ use Rattle.basics.specs.Answers.{isDone}
 use Rattle.basics.specs.declared.Answer.{Answer}
 use Rattle.basics.specs.declared.Answer.the-variants.{Done, BadImage, WriteError, EraseError}
 use Rattle.flash.specs.declared.Plan.{Plan}
-use Rattle.flash.specs.Image.{sectorsIn}
+use Rattle.flash.specs.Image.{slotCount, sectorsIn}
 use Rattle.flash.specs.Run.{Flash, Stepped, program, erase}
 use Rattle.decisions.specs.Outcomes.{flashOf}
 
 -- "1 BadImage"; what the image doesn't have is refused as `outside` says
 unfoldable pub placeAnswer : ℕ → ℕ → ℕ → Answer → Answer
-placeAnswer n sector slot outside = pick (eqb n 0) BadImage (pick (ltb sector n && ltb slot 256) Done outside)
+placeAnswer n sector slot outside = pick (eqb n 0) BadImage (pick (ltb sector n && ltb slot slotCount) Done outside)
 
 -- a step in a place of the image, where the image has it
 unfoldable pub within : List ℕ → ℕ → Plan → ℕ → Answer → (Flash → Stepped) → Stepped

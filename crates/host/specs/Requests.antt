@@ -3,6 +3,7 @@ use mathlib.Core.List.{List}
 use lib.ListN.{replicate}
 use Prim.Native.Nat.{ℕ}
 use Rattle.basics.specs.declared.Answer.the-variants.{Done}
+use Rattle.codec.specs.Slots.{slotSize}
 use Rattle.ids.specs.Counters.{freshOf}
 use Rattle.flash.specs.declared.Plan.{Plan}
 use Rattle.flash.specs.Run.{Stepped}
@@ -21,10 +22,10 @@ abbrev pub noSeed : Seed
 noSeed = record { credential = 0; state = freshOf 0 }
 
 abbrev pub requestOf : Kind → Request
-requestOf kind = record { kind = kind; seeds = replicate 8 noSeed; bytes = replicate 16 0 }
+requestOf kind = record { kind = kind; seeds = replicate 8 noSeed; bytes = replicate slotSize 0 }
 
 abbrev pub formatWith : List Seed → ℕ → Request
-formatWith seeds count = record { kind = Format count; seeds = seeds; bytes = replicate 16 0 }
+formatWith seeds count = record { kind = Format count; seeds = seeds; bytes = replicate slotSize 0 }
 
 abbrev pub programWith : ℕ → ℕ → List ℕ → Request
 programWith sector slot bytes = record { kind = Program sector slot; seeds = replicate 8 noSeed; bytes = bytes }

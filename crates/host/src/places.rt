@@ -1,6 +1,8 @@
 // A program and an erase alone, on a plan by value: refused where the image doesn't have the place.
 use basics::Answer;
+use codec::SLOT;
 use flash::Plan;
+use flash::SLOTS;
 use sectors::Step;
 ghost use mathlib.Core.Path.{_≡_};
 ghost use Rattle.sectors.specs.Shown.{ShowsStep};
@@ -16,14 +18,14 @@ fn place_answer(n: usize, sector: usize, slot: usize, outside: Answer) -> Answer
     if n <= sector {
         return outside;
     }
-    if 256 <= slot {
+    if SLOTS <= slot {
         return outside;
     }
     Answer::Done
 }
 
 // Programs a slot and reads it back; 1 where the image is none, 6 where it has no such slot.
-pub fn program(image: &mut [u8], sector: usize, plan: Plan, slot: usize, bytes: [u8; 16]) -> Step
+pub fn program(image: &mut [u8], sector: usize, plan: Plan, slot: usize, bytes: [u8; SLOT]) -> Step
     ensures { λ r. ⌜ ShowsStep (programOf (now (image .entry)) sector plan slot bytes) r (now (image .exit)) ⌝ }
 {
     let n = flash::sectors(image.len());

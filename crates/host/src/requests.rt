@@ -1,5 +1,6 @@
 // What can be asked of the flash, as a value: a call that writes, or a program or an erase alone.
 // The arrays stand beside the kind, and are not looked at where the kind doesn't say so.
+use codec::SLOT;
 use decisions::SEEDS;
 use decisions::Seed;
 use ids::Anchor;
@@ -25,7 +26,7 @@ pub enum Kind {
 pub struct Request {
     pub kind: Kind,
     pub seeds: [Seed; SEEDS],
-    pub bytes: [u8; 16],
+    pub bytes: [u8; SLOT],
 }
 
 // A seed of zeros.
@@ -48,7 +49,7 @@ impl Request {
         Request {
             kind: kind,
             seeds: [z; SEEDS],
-            bytes: [0; 16],
+            bytes: [0; SLOT],
         }
     }
 
@@ -59,12 +60,12 @@ impl Request {
         Request {
             kind: Kind::Format { count: count },
             seeds: seeds,
-            bytes: [0; 16],
+            bytes: [0; SLOT],
         }
     }
 
     // A program of one slot.
-    pub fn program(sector: usize, slot: usize, bytes: [u8; 16]) -> Request
+    pub fn program(sector: usize, slot: usize, bytes: [u8; SLOT]) -> Request
         ensures { λ r. ⌜ r ≡ programWith sector slot bytes ⌝ }
     {
         let z = no_seed();

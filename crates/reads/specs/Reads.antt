@@ -13,6 +13,7 @@ use Rattle.ids.specs.declared.Anchor.{Anchor}
 use Rattle.ids.specs.Ids.{counterTag, valueTag, anchorTag, isCredential, isValue, lamport}
 use Rattle.codec.specs.declared.OptRaw.{OptRaw}
 use Rattle.bodies.specs.Bodies.{counterIn, valueIn, anchorIn}
+use Rattle.flash.specs.Image.{sectorsMost}
 use Rattle.records.specs.declared.State.{State}
 use Rattle.records.specs.declared.State.the-variants.{Unformatted, Failed, Active}
 use Rattle.records.specs.declared.Log.{Log}
@@ -29,7 +30,7 @@ use Rattle.reads.specs.Entering.{entryAnswer, heldOf}
 -- the tests first, then what the state and the record of the key say
 abbrev pub readBy : {A : Type 0} → (State → OptRaw → A) → (Answer → A) → Log → Bool → ℕ → ℕ → A
 readBy by refused log known tag id =
-    pick (isDone (entryAnswer 16 log known)) (by (log .state) (heldOf tag id (recordsOf log))) (refused (entryAnswer 16 log known))
+    pick (isDone (entryAnswer sectorsMost log known)) (by (log .state) (heldOf tag id (recordsOf log))) (refused (entryAnswer sectorsMost log known))
 
 -- the same in the paper's numbers, for any value that a body holds; `unformatted`: what is said of an Unformatted log, 4 or that there is none
 abbrev pub heldSays : {A : Type 0} → Says A → (List ℕ → A) → State → OptRaw → Says A

@@ -1,8 +1,9 @@
-// The calls that read one record of the log. They take no image, so the sector must be below 16.
+// The calls that read one record of the log. They take no image, so the log is tested against the most sectors that one has.
 use crate::Anchored;
 use crate::Counter;
 use crate::Number;
 use basics::Answer;
+use flash::SECTORS_MOST;
 use records::Log;
 use records::State;
 ghost use mathlib.Core.Path.{_≡_};
@@ -14,7 +15,7 @@ pub fn get(log: Log, credential: u8) -> Counter
 {
     let e = crate::enter(
         log,
-        crate::MOST,
+        SECTORS_MOST,
         ids::is_credential(credential),
         ids::COUNTER_TAG,
         credential,
@@ -46,7 +47,7 @@ pub fn get(log: Log, credential: u8) -> Counter
 pub fn value(log: Log, id: u8) -> Number
     ensures { λ r. ⌜ (r ≡ valueOf log id) × (numberSays r ≡ valueSays log id) ⌝ }
 {
-    let e = crate::enter(log, crate::MOST, ids::is_value(id), ids::VALUE_TAG, id);
+    let e = crate::enter(log, SECTORS_MOST, ids::is_value(id), ids::VALUE_TAG, id);
     let answer = e.answer;
     if !basics::is_done(answer) {
         return Number::Refused(answer);
@@ -74,7 +75,7 @@ pub fn value(log: Log, id: u8) -> Number
 pub fn anchor(log: Log) -> Anchored
     ensures { λ r. ⌜ (r ≡ anchorOf log) × (anchoredSays r ≡ anchorSays log) ⌝ }
 {
-    let e = crate::enter(log, crate::MOST, true, ids::ANCHOR_TAG, 0);
+    let e = crate::enter(log, SECTORS_MOST, true, ids::ANCHOR_TAG, 0);
     let answer = e.answer;
     if !basics::is_done(answer) {
         return Anchored::Refused(answer);

@@ -21,9 +21,6 @@ ghost use mathlib.Core.Path.{_≡_};
 ghost use Rattle.reads.specs.Entering.{refusedEntry, entryOf};
 ghost use Rattle.reads.specs.Reads.{toldOf, toldRefused};
 
-// The most sectors that an image has: a call that takes no image tests the log against so many.
-const MOST: usize = 16;
-
 // What a call finds as it begins: its refusal, or the place of its key, or the count, whether there is room for it, and the record held.
 pub struct Entry {
     pub answer: Answer,

@@ -2,6 +2,7 @@
 use crate::Number;
 use crate::Told;
 use crate::held;
+use flash::SECTORS_MOST;
 use records::Log;
 use records::State;
 ghost use mathlib.Core.Path.{_≡_};
@@ -22,7 +23,7 @@ pub fn lamport(log: Log) -> Told
 pub fn needs_migration(log: Log) -> Told
     ensures { λ r. ⌜ r ≡ needsMigrationOf log ⌝ }
 {
-    let e = crate::enter(log, crate::MOST, true, ids::ANCHOR_TAG, 0);
+    let e = crate::enter(log, SECTORS_MOST, true, ids::ANCHOR_TAG, 0);
     let answer = e.answer;
     if !basics::is_done(answer) {
         return Told::refused(answer);

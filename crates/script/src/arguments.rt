@@ -3,7 +3,7 @@
 use crate::Taken;
 use crate::decimals;
 use crate::hex;
-use flash::SLOT;
+use codec::SLOT;
 ghost use Prim.Native.Nat.{_≤_};
 ghost use Rattle.script.specs.Limits.{Within};
 
