@@ -9,6 +9,7 @@ use Rattle.flash.specs.declared.Plan.{Plan}
 use Rattle.flash.specs.Run.{Stepped}
 use Rattle.records.specs.declared.Log.{Log}
 use Rattle.decisions.specs.declared.seeds.Seed.{Seed}
+use Rattle.decisions.specs.Seeds.{seedsMost}
 use Rattle.decisions.specs.Outcomes.{Outcome, flashOf, refused}
 use Rattle.log.specs.Calls.{putOf, putValueOf, putAnchorOf, formatOf}
 use Rattle.tries.specs.Tries.{spendOf, setOf, advanceOf}
@@ -22,13 +23,13 @@ abbrev pub noSeed : Seed
 noSeed = record { credential = 0; state = freshOf 0 }
 
 abbrev pub requestOf : Kind → Request
-requestOf kind = record { kind = kind; seeds = replicate 8 noSeed; bytes = replicate slotSize 0 }
+requestOf kind = record { kind = kind; seeds = replicate seedsMost noSeed; bytes = replicate slotSize 0 }
 
 abbrev pub formatWith : List Seed → ℕ → Request
 formatWith seeds count = record { kind = Format count; seeds = seeds; bytes = replicate slotSize 0 }
 
 abbrev pub programWith : ℕ → ℕ → List ℕ → Request
-programWith sector slot bytes = record { kind = Program sector slot; seeds = replicate 8 noSeed; bytes = bytes }
+programWith sector slot bytes = record { kind = Program sector slot; seeds = replicate seedsMost noSeed; bytes = bytes }
 
 -- a step alone leaves the log as it is, and answers no value
 abbrev pub stepOutcome : Log → Stepped → Outcome

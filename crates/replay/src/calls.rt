@@ -2,6 +2,7 @@
 // A line that isn't one of these or can't be read has `ok` false.
 use basics::Answer;
 use decisions::Done;
+use decisions::SEEDS;
 use decisions::Seed;
 use flash::Plan;
 use host::Kind;
@@ -45,7 +46,7 @@ enum Call {
 // The seeds on a line.
 struct Seeds {
     ok: bool,
-    seeds: [Seed; 8],
+    seeds: [Seed; SEEDS],
 }
 
 // A line that is no such call: log and plan as they were.
@@ -177,10 +178,10 @@ fn seed_of(n: Numbers) -> Seed
 // Seeds up to the line's end; places not written are zeros.
 fn seeds_at(line: &[u8], at: usize) -> Seeds {
     let z = no_seed();
-    let mut seeds = [z; 8];
+    let mut seeds = [z; SEEDS];
     let mut from = at;
     let mut i: usize = 0;
-    while i < 8 {
+    while i < SEEDS {
         if line.len() <= from {
             return Seeds {
                 ok: true,
