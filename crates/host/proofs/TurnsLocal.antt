@@ -22,7 +22,7 @@ use denote.Struct.Laws as LL
 use Rattle.flash.specs.declared.Plan.{Plan}
 use Rattle.flash.proofs.Plan as P
 use Rattle.flash.proofs.Plan.Laws as P′
-use Rattle.host.proofs.LentInPlace.{PlanR, planVals}
+use Rattle.host.proofs.LentValues.{PlanR, planVals}
 
 -- the local with the plan h
 abbrev pub cell : ℕ → Plan → Fml

@@ -52,8 +52,7 @@ use Rattle.decisions.specs.declared.outcomes.Done.{Done}
 use Rattle.decisions.specs.Outcomes.{Outcome, doneOf}
 use Rattle.decisions.proofs.outcomes.Done as D
 use Rattle.decisions.proofs.outcomes.Done.Laws as D′
-use Rattle.host.proofs.LentPlain.{Single, struct-single, typed}
-use Rattle.host.proofs.LentInPlace.{PlanR, planVals}
+use Rattle.host.proofs.LentValues.{Single, struct-single, typed, PlanR, LogR, DoneR, RequestR, plan-one, log-one, done-one, request-one, planVals}
 use Rattle.host.specs.Lent.{ShowsDoneLent}
 use Rattle.host.specs.declared.requests.Request.{Request}
 use Rattle.host.specs.Requests.{requested}
@@ -79,32 +78,11 @@ use Rattle.host.proofs.turns.in_turn as in-turn
 use Rattle.host.proofs.turns.in_turn.Statement as stated
 use Rattle.host.proofs.turns.in_turn.Code as code
 
-abbrev LogR : RattleType
-LogR = Lg.the-row
-
-abbrev DoneR : RattleType
-DoneR = D.the-row
-
 abbrev BothR : RattleType
 BothR = T.the-row
 
-abbrev RequestR : RattleType
-RequestR = Rq.the-row
-
-abbrev log-one : Single LogR
-log-one = struct-single Lg.the-type Lg′.the-laws Lg′.the-copy
-
-abbrev done-one : Single DoneR
-done-one = struct-single D.the-type D′.the-laws D′.the-copy
-
-abbrev plan-one : Single PlanR
-plan-one = struct-single P.the-type P′.the-laws P′.the-copy
-
-abbrev request-one : Single RequestR
-request-one = struct-single Rq.the-type Rq′.the-laws Rq′.the-copy
-
 abbrev both-one : Single BothR
-both-one = struct-single T.the-type T′.the-laws T′.the-copy
+both-one = struct-single T.the-type T′.the-laws
 
 abbrev stayed : Stays (in-turn.ended .signature .params) (in-turn.ended .kept)
 stayed = (
