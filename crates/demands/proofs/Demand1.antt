@@ -39,7 +39,6 @@ use Rattle.reads.specs.Reads.{counterSays, numberSays, anchoredSays}
 use Rattle.decisions.specs.Outcomes.{Outcome, flashOf, refused, entered}
 use Rattle.ids.specs.declared.Anchor.{Anchor}
 use Rattle.ids.specs.Ids.{counterTag, valueTag, anchorTag, lamport as lamportId, isCredential, isValue}
-use Rattle.codec.specs.declared.OptRaw.{OptRaw}
 use Rattle.records.specs.Logs.{recordsOf, logOf}
 use Rattle.scan.specs.declared.Opened.{Opened}
 use Rattle.scan.specs.Opening.{scanOf, logFrom, openOf}

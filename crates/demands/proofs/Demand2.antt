@@ -1,5 +1,5 @@
 -- Demand 2: what a function may answer, and leave of what it was lent, is one thing only.
-use mathlib.Core.Path.{_≡_, sym, ap, _∙_}
+use mathlib.Core.Path.{sym, ap, _∙_}
 use mathlib.Core.Bool.{false}
 use Rattle.crc.proofs.IeeeBits.{number, number-bits}
 use Rattle.crc.proofs.IeeeCheck.{check-unique, crc-check}
