@@ -12,7 +12,7 @@ use Rattle.sectors.specs.declared.Step.{Step}
 use Rattle.sectors.specs.declared.Used.{Used}
 use Rattle.sectors.specs.Shown.{ShowsStep}
 use Rattle.decisions.specs.declared.outcomes.Done.{Done}
-use Rattle.decisions.specs.Outcomes.{ShowsDone, flashOf, refused}
+use Rattle.decisions.specs.Outcomes.{Outcome, ShowsDone, flashOf, refused}
 use Rattle.decisions.specs.Ready.{answeredOf}
 use Rattle.host.specs.declared.requests.Kind.{Kind}
 use Rattle.host.specs.Requests.{stepOutcome, askedBy, requested}
@@ -24,13 +24,14 @@ module _ (b : tie.After-bytes) where
   abbrev start : tie.Start
   start = b .before .before .before
 
-  by-kind : (k : Kind) → start .args .request .kind ≡ k → (r : Done) (left : List ℕ)
-      → ShowsDone (askedBy k (start .args .request .seeds) (start .args .request .bytes) (now (start .args .image)) (start .args .log) (start .args .plan)) r left
+  -- a kind with the rest of the request, on what the call was given
+  abbrev asked : Kind → Outcome
+  asked k =
+      askedBy k (start .args .request .seeds) (start .args .request .bytes) (now (start .args .image)) (start .args .log) (start .args .plan)
+
+  by-kind : (k : Kind) → start .args .request .kind ≡ k → (r : Done) (left : List ℕ) → ShowsDone (asked k) r left
       → ShowsDone (requested (start .args .request) (now (start .args .image)) (start .args .log) (start .args .plan)) r left
-  by-kind k e r left =
-      subst
-      (λ (x : Kind). ShowsDone (askedBy x (start .args .request .seeds) (start .args .request .bytes) (now (start .args .image)) (start .args .log)
-      (start .args .plan)) r left) (sym e)
+  by-kind k e r left = subst (λ (x : Kind). ShowsDone (asked x) r left) (sym e)
 
 -- a plan of which nothing is used, beside the log as it came
 nothing-done : (image : List ℕ) (log : Log) (plan : Plan) (u : Used) → u ≡ record { plan = plan; programmed = 0; erased = 0 }

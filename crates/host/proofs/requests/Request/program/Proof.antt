@@ -12,7 +12,9 @@ no-seed-requires : tie.Need-no-seed-requires
 no-seed-requires c κs = search needs
 
 returns : tie.Need-returns
-returns c = ap (λ (s : Seed). record { kind = Program (c .before .args .sector) (c .before .args .slot); seeds = replicate 8 s; bytes = c .before .args .bytes }) (c .no-seed .ensures)
+returns c =
+    let a = c .before .args in
+    ap (λ (s : Seed). record { kind = Program (a .sector) (a .slot); seeds = replicate 8 s; bytes = a .bytes }) (c .no-seed .ensures)
 
 pub program-spec : {M : Type 1} → statement M
 program-spec = tie.close (tie.spec no-seed-requires returns)
