@@ -3,6 +3,7 @@ ghost use Rattle.std.specs.Prelude.{◌≡◌};
 ghost use Rattle.basics.specs.Little.{le_bytes};
 
 // The two bytes of a number, lowest first.
+#[tactic(auto, unfolding(crate::specs::Little::le_bytes))]
 pub fn bytes2(x: u16) -> [u8; 2]
     ensures { result ≡ le_bytes 2 x }
 {
@@ -10,6 +11,7 @@ pub fn bytes2(x: u16) -> [u8; 2]
 }
 
 // The four bytes of a number, lowest first.
+#[tactic(auto, unfolding(crate::specs::Little::le_bytes))]
 pub fn bytes4(x: u32) -> [u8; 4]
     ensures { result ≡ le_bytes 4 x }
 {
@@ -24,6 +26,7 @@ pub fn bytes4(x: u32) -> [u8; 4]
 }
 
 // The eight bytes of a number, lowest first.
+#[tactic(auto, unfolding(crate::specs::Little::le_bytes))]
 pub fn bytes8(x: u64) -> [u8; 8]
     ensures { result ≡ le_bytes 8 x }
 {

@@ -3,6 +3,7 @@ ghost use Rattle.std.specs.Prelude.{◌≡◌, ◌∷◌, [], ◌+◌, ◌*◌};
 ghost use Rattle.basics.specs.Little.{le_number};
 
 // The number that four bytes spell.
+#[tactic(auto, unfolding(crate::specs::Little::le_number))]
 pub fn number4(a: u8, b: u8, c: u8, d: u8) -> u32
     ensures { result ≡ le_number (a ∷ b ∷ c ∷ d ∷ []) }
 {
@@ -10,6 +11,7 @@ pub fn number4(a: u8, b: u8, c: u8, d: u8) -> u32
 }
 
 // The number that two bytes spell.
+#[tactic(auto, unfolding(crate::specs::Little::le_number))]
 pub fn number2(a: u8, b: u8) -> u16
     ensures { result ≡ le_number (a ∷ b ∷ []) }
 {

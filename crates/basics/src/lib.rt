@@ -1,5 +1,6 @@
 // What every crate shares: the answers 0 to 9 of document 01, and numbers as bytes, lowest first.
 // specs/ also has the choices and lists that all definitions are written with.
+#![tactic(auto)]
 
 mod le_bytes; // a number as two, four or eight bytes
 mod le_numbers; // the number that bytes spell
@@ -11,7 +12,7 @@ pub use le_bytes::{bytes2, bytes4, bytes8};
 pub use le_numbers::{joined, number2, number4};
 
 // What a call answers, in the order of the numbers 0 to 9.
-#[derive(Drop)]
+#[derive(Clone, Copy)]
 pub enum Answer {
     Done,
     BadImage,

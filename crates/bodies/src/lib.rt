@@ -1,4 +1,5 @@
 // "Slot layouts": the ten bytes of a record's body, as a counter, a value or an anchor, both ways.
+#![tactic(auto)]
 
 mod counters; // a credential's counter of tries
 mod values; // a device value
@@ -13,7 +14,7 @@ use basics::Answer;
 use codec::Raw;
 
 // The record of an anchor, or why there is none.
-#[derive(Drop)]
+#[derive(Clone, Copy)]
 pub struct AnchorRecord {
     pub answer: Answer,
     pub raw: Raw,

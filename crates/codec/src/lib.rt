@@ -1,5 +1,6 @@
 // "Slot layouts": the sixteen bytes of a slot, as a sector's header or as a record, with their checksum.
 // Here stand the types of both, and the test for erased bytes.
+#![tactic(auto)]
 
 mod checksum; // the checksum of a slot: begun with the sector's seq, worked, and read
 mod seal; // twelve bytes with their checksum behind them
@@ -15,7 +16,7 @@ pub use headers::{decode_header, encode_header};
 pub use slots::{decode, decode_from, encode, encode_from};
 
 // A record's payload by tag and id: bytes 0, 1 and 2..11 of its slot.
-#[derive(Drop)]
+#[derive(Clone, Copy)]
 pub struct Raw {
     pub tag: u8,
     pub id: u8,
@@ -23,14 +24,14 @@ pub struct Raw {
 }
 
 // A record, or none: an enum can't hold the body's array.
-#[derive(Drop)]
+#[derive(Clone, Copy)]
 pub struct OptRaw {
     pub some: bool,
     pub raw: Raw,
 }
 
 // What a header slot says: its sector's seq.
-#[derive(Drop)]
+#[derive(Clone, Copy)]
 pub enum Header {
     Valid(u32),
     Invalid,

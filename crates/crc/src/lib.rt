@@ -1,4 +1,6 @@
 // CRC-32 of IEEE 802.3: of bytes at once, and as a register that is run on, part after part.
+#![tactic(auto)]
+
 ghost use Rattle.std.specs.Prelude.{◌≡◌};
 ghost use Rattle.basics.specs.Little.{le_bytes};
 ghost use Rattle.crc.specs.Ieee.{IsCheck, message, bits};

@@ -1,5 +1,6 @@
 // What a call decides on the record held of its key (to refuse, to answer without a write, or to write a record), and what comes of it.
 // Here stands what a decision is; the calls themselves stand in log and tries.
+#![tactic(auto)]
 
 mod puts; // what put and put_value decide
 mod anchors; // what put_anchor decides
@@ -23,7 +24,7 @@ use basics::Answer;
 use codec::Raw;
 
 // What a call has decided: an answer and a value, and where `write` is set, the record to append first.
-#[derive(Drop)]
+#[derive(Clone, Copy)]
 pub struct Decision {
     pub answer: Answer,
     pub write: bool,

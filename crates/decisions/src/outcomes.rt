@@ -10,7 +10,7 @@ use records::{LIMIT, Log};
 use sectors::{Used, Wrote};
 
 // What a call on an image answers, and the log and plan that it hands back.
-#[derive(Drop)]
+#[derive(Clone, Copy)]
 pub struct Done {
     pub answer: Answer,
     pub value: u64,

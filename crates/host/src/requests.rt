@@ -8,7 +8,7 @@ use decisions::{SEEDS, Seed};
 use ids::{Anchor, CounterState};
 
 // The calls that can write, and the two steps that they are made of.
-#[derive(Drop)]
+#[derive(Clone, Copy)]
 pub enum Kind {
     Nothing,
     Put { credential: u8, new: CounterState },
@@ -23,7 +23,7 @@ pub enum Kind {
 }
 
 // A kind, the seeds of a format, and the bytes of a program.
-#[derive(Drop)]
+#[derive(Clone, Copy)]
 pub struct Request {
     pub kind: Kind,
     pub seeds: [Seed; SEEDS],

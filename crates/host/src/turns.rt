@@ -8,7 +8,7 @@ use flash::Plan;
 use records::Log;
 
 // What came of the first request, and what came of the second.
-#[derive(Drop)]
+#[derive(Clone, Copy)]
 pub struct InTurn {
     pub first: Done,
     pub second: Done,

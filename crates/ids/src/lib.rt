@@ -1,5 +1,6 @@
 // Credentials, values and anchors by their numbers, what a tag and id mean, and the counter of tries.
 // The counter's methods are the paper's: remaining, after a failure, after a reset.
+#![tactic(auto)]
 
 mod meanings; // which ids are known, and what a tag and id mean
 
@@ -42,14 +43,14 @@ const TOTAL_MAX: u32 = 4_294_967_295;
 pub const ANCHOR_SEQ_MAX: u64 = 281_474_976_710_655;
 
 // Where a number stands in the table of credentials.
-#[derive(Drop)]
+#[derive(Clone, Copy)]
 enum Place {
     At(usize),
     Unknown,
 }
 
 // What a tag and id mean; a free value may fall, a monotonic one may not.
-#[derive(Drop)]
+#[derive(Clone, Copy)]
 pub enum Meaning {
     Credential(usize),
     Monotonic,
@@ -59,7 +60,7 @@ pub enum Meaning {
 }
 
 // The counter of one credential: failures ever, their number at the last reset, and the tries granted then.
-#[derive(Drop)]
+#[derive(Clone, Copy)]
 pub struct CounterState {
     pub total: u32,
     pub at_reset: u32,
@@ -67,14 +68,14 @@ pub struct CounterState {
 }
 
 // The state that follows, or why there is none.
-#[derive(Drop)]
+#[derive(Clone, Copy)]
 pub enum Next {
     State(CounterState),
     Refused(Answer),
 }
 
 // The head of a key store's log, by which the store is found again.
-#[derive(Drop)]
+#[derive(Clone, Copy)]
 pub struct Anchor {
     pub format_gen: u16,
     pub head_seq: u64,

@@ -1,4 +1,6 @@
 // The listing of an image, as text in a lent buffer: a line with its state, then each record in decimal.
+#![tactic(auto)]
+
 ghost use Rattle.std.specs.Prelude.{◌+◌, ◌≤◌, length, take};
 ghost use Rattle.records.specs.Table.{limit};
 ghost use Rattle.text.specs.Text.{Puts};

@@ -1,5 +1,6 @@
 // The calls that only read the log, and the tests 1, 2, 3 that every call begins with.
 // Here stand what those calls answer, and `enter`, which makes the tests.
+#![tactic(auto)]
 
 mod held; // get, value, anchor: what is held of one key
 mod status; // lamport, needs_migration
@@ -18,7 +19,7 @@ use ids::{Anchor, CounterState};
 use records::{LIMIT, Log};
 
 // What a call finds as it begins: its refusal, or the place of its key, or the count, whether there is room for it, and the record held.
-#[derive(Drop)]
+#[derive(Clone, Copy)]
 pub struct Entry {
     pub answer: Answer,
     pub at: usize,
@@ -27,7 +28,7 @@ pub struct Entry {
 }
 
 // What is held of a credential, or why it can't be told.
-#[derive(Drop)]
+#[derive(Clone, Copy)]
 pub enum Counter {
     Refused(Answer),
     Nothing,
@@ -35,7 +36,7 @@ pub enum Counter {
 }
 
 // What is held of a value.
-#[derive(Drop)]
+#[derive(Clone, Copy)]
 pub enum Number {
     Refused(Answer),
     Nothing,
@@ -43,7 +44,7 @@ pub enum Number {
 }
 
 // What is held as the anchor.
-#[derive(Drop)]
+#[derive(Clone, Copy)]
 pub enum Anchored {
     Refused(Answer),
     Nothing,
@@ -51,7 +52,7 @@ pub enum Anchored {
 }
 
 // An answer and a number: beside a refusal any value asked for is 0.
-#[derive(Drop)]
+#[derive(Clone, Copy)]
 pub struct Told {
     pub answer: Answer,
     pub value: u64,

@@ -14,7 +14,7 @@ pub const SEQ_MAX: u32 = 4_294_967_295;
 pub const HEAD_MAX: u32 = SLOTS as u32;
 
 // What a look finds: where the log fits, the place of the key, or the count, and the record there.
-#[derive(Drop)]
+#[derive(Clone, Copy)]
 pub struct Looked {
     pub fits: bool,
     pub at: usize,

@@ -1,5 +1,6 @@
 // The log value: its state, next_seq, and a table of at most 32 records as places and a count; and number 2, whether it fits an image.
 // A record is found by its key, which is its tag and id.
+#![tactic(auto)]
 
 mod fitting; // the tests of number 2 on the state, and on the places past the count
 mod survey; // one pass over the records: whether their keys fit, and where one key stands
@@ -19,7 +20,7 @@ use codec::Raw;
 pub const LIMIT: usize = 32;
 
 // What a log is: never formatted, unreadable, or in use in a sector with this seq, where head is the next slot.
-#[derive(Drop)]
+#[derive(Clone, Copy)]
 pub enum State {
     Unformatted,
     Failed,
@@ -27,7 +28,7 @@ pub enum State {
 }
 
 // The log as calls take it and hand it back. Places past the count hold zeros only.
-#[derive(Drop)]
+#[derive(Clone, Copy)]
 pub struct Log {
     pub state: State,
     pub next_seq: u32,

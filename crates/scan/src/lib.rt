@@ -1,5 +1,6 @@
 // "Opening": the sector whose header wins, its records and head, and the log that they make.
 // Here stand the header that wins and next_seq.
+#![tactic(auto)]
 
 mod sector; // one pass over the slots of the sector that won
 mod opening; // open, and the scan of a region
@@ -17,14 +18,14 @@ use codec::{Header, Raw};
 use records::{LIMIT, Log, SEQ_MAX, State};
 
 // The sector whose header wins, or none.
-#[derive(Drop)]
+#[derive(Clone, Copy)]
 pub enum Chosen {
     Sector { sector: usize, seq: u32 },
     Nothing,
 }
 
 // A region as it was found: Unformatted without a header, Failed with more keys than a log can hold.
-#[derive(Drop)]
+#[derive(Clone, Copy)]
 pub struct RegionScan {
     pub state: State,
     pub count: usize,
@@ -32,7 +33,7 @@ pub struct RegionScan {
 }
 
 // What opening answers: always with a log.
-#[derive(Drop)]
+#[derive(Clone, Copy)]
 pub struct Opened {
     pub answer: Answer,
     pub log: Log,

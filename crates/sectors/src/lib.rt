@@ -1,5 +1,6 @@
 // "Writing": a slot and an erase, each with what it used of the plan; a sector, a commit and an append made of them.
 // Each is stated for every place where power may go, so that the theorems on a pulled stick cite these very contracts.
+#![tactic(auto)]
 
 mod rewrites; // a sector written anew: erased, records, header last
 mod commits; // a table committed to the first sector that takes it

@@ -1,4 +1,5 @@
 // Text into a lent buffer: bytes, numbers in decimal, a byte in hex. Each function answers the place one past what it put.
+#![tactic(auto)]
 
 mod figures; // numbers in decimal, and a byte in hex
 

@@ -1,0 +1,33 @@
+-- `codec::slots::decode_from` meets its contract.
+use mathlib.Core.Path.{sym, ◌∙◌}
+use Rattle.codec.specs.Slots.{decoded_with}
+use borrow.Author.Tests.{eq-eqb, ne_eqb}
+use Rattle.codec.proofs.slots.decode_from.Goals as goal
+
+pub returns-then-slot-ne-SLOT : goal.returns-then-slot-ne-SLOT
+unfolding decoded_with
+returns-then-slot-ne-SLOT c = rw (c.nothing.ensures, ne_eqb _ _ c.if-slot-ne-SLOT.true)
+
+pub returns-then-slot : goal.returns-then-slot
+unfolding decoded_with
+returns-then-slot c = rw (c.nothing-then-slot.ensures, eq-eqb _ _ c.if-slot-ne-SLOT.false, eq-eqb _ _ c.if-slot.true)
+
+pub returns-then-check12-carried : goal.returns-then-check12-carried
+unfolding decoded_with
+returns-then-check12-carried c =
+    rw (
+      c.nothing-then-check12-carried.ensures,
+      eq-eqb _ _ c.if-slot-ne-SLOT.false,
+      ne_eqb _ _ c.if-slot.false,
+      ne_eqb _ _ (λ e. c.if-check12-carried.true (c.check12.ensures ∙ e ∙ sym c.carried.ensures)),
+    )
+
+pub returns : goal.returns
+unfolding decoded_with
+returns c =
+    rw (
+      c.from_slot-r.ensures,
+      eq-eqb _ _ c.if-slot-ne-SLOT.false,
+      ne_eqb _ _ c.if-slot.false,
+      eq-eqb _ _ (sym c.check12.ensures ∙ c.if-check12-carried.false ∙ c.carried.ensures),
+    )
