@@ -24,9 +24,8 @@ returns-then-not-decision c =
     let entered : is_done c.args.entry.answer ≡ true = sym c.is_done.ensures ∙ not-false c.is_done.result c.if-not-is_done.false-raw in
     λ cut.
     let a = c.args in
-    let g = c.state-1.given in
     rw
-    (on-given a.entry a.decision a.sectors a.log (flash-of cut) entered g.0.0 g.0.1.0 g.0.1.1.0 g.1
+    (on-given a.entry a.decision a.sectors a.log (flash-of cut) entered c.in-Active.sector c.in-Active.seq c.in-Active.head c.in-Active.is
     (not-true a.decision.write c.if-not-decision.true))
     (record { answered = c.answered-then-not-decision.ensures; left = refl })
 
@@ -59,8 +58,7 @@ returns-else-not-decision c =
     let entered : is_done c.args.entry.answer ≡ true = sym c.is_done.ensures ∙ not-false c.is_done.result c.if-not-is_done.false-raw in
     λ cut.
     let a = c.args in
-    let g = c.state-1.given in
     rw
-    (on-written a.entry a.decision a.sectors a.log (flash-of cut) entered g.0.0 g.0.1.0 g.0.1.1.0
-    g.1 (not-false a.decision.write c.if-not-decision.false))
+    (on-written a.entry a.decision a.sectors a.log (flash-of cut) entered c.in-Active.sector c.in-Active.seq c.in-Active.head
+    c.in-Active.is (not-false a.decision.write c.if-not-decision.false))
     (c.write_record.ensures cut)
