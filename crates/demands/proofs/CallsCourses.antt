@@ -42,7 +42,7 @@ use Rattle.decisions.specs.Seeds.{all_known, seeds_known, seed_table}
 use Rattle.decisions.proofs.SeedsLaws.{seeded-most}
 use Rattle.decisions.specs.Outcomes.{Outcome, flash_of, refused, entered}
 use Rattle.decisions.specs.Performing.{written_outcome, appended, performed, decided}
-use Rattle.log.specs.Calls.{is_first, anchor_call, anchored_first, anchored, put_anchor_of, format_on, format_of}
+use Rattle.counter_log.specs.Calls.{is_first, anchor_call, anchored_first, anchored, put_anchor_of, format_on, format_of}
 use Rattle.demands.specs.Seen.{Seen, seen, holding, table_in}
 use Rattle.demands.specs.Calls.{Call, outcome_of, AnchorNoEffect, NoEffect}
 use Rattle.demands.proofs.Endings.{Fails}

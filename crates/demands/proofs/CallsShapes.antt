@@ -19,7 +19,7 @@ use Rattle.reads.specs.Entering.{held_of, room_for}
 use Rattle.decisions.specs.declared.seeds.Seed.{Seed}
 use Rattle.decisions.specs.Outcomes.{Outcome, entered}
 use Rattle.decisions.specs.Performing.{decided}
-use Rattle.log.specs.Calls.{put_of, put_value_of}
+use Rattle.counter_log.specs.Calls.{put_of, put_value_of}
 use Rattle.tries.specs.Tries.{start_of, spend_decision, spend_of, set_decision, set_of, seen_of, advance_decision, advance_of}
 use Rattle.demands.specs.Seen.{Seen, seen}
 use Rattle.demands.specs.Calls.{Call, put, put-value, put-anchor, format, spend, set-tries, advance_lamport, outcome_of, Typed}

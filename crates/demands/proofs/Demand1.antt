@@ -46,7 +46,7 @@ use Rattle.decisions.specs.declared.Decision.{Decision}
 use Rattle.decisions.specs.Decisions.{when_active}
 use Rattle.decisions.specs.Seeds.{seeds_known, seed_table}
 use Rattle.decisions.specs.Performing.{performed, decided, formatted}
-use Rattle.log.specs.Calls.{is_first, anchored_first, anchored as anchoredOn, format_on, put_anchor_of, format_of}
+use Rattle.counter_log.specs.Calls.{is_first, anchored_first, anchored as anchoredOn, format_on, put_anchor_of, format_of}
 use Rattle.tries.specs.Tries.{tries_left_by, tries_left_says, load_by}
 use Rattle.demands.specs.Calls.{Call, outcome_of, NoEffect}
 use Rattle.demands.specs.Seen.{Seen}

@@ -20,7 +20,7 @@ use Rattle.decisions.specs.declared.seeds.Seed.{Seed}
 use Rattle.decisions.specs.Seeds.{seeds_known, seed_table}
 use Rattle.decisions.specs.Outcomes.{Outcome, flash_of, entered}
 use Rattle.decisions.specs.Performing.{performed, decided}
-use Rattle.log.specs.Calls.{anchored, put_anchor_of, format_on, format_of}
+use Rattle.counter_log.specs.Calls.{anchored, put_anchor_of, format_on, format_of}
 use Rattle.demands.specs.Healthy.{Healthy, healthy}
 use Rattle.demands.specs.Typed.{TypedSeeds}
 use Rattle.demands.specs.Calls.{Call, put-anchor, outcome_of, Typed}

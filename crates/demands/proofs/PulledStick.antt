@@ -39,7 +39,7 @@ use Rattle.decisions.specs.declared.seeds.Seed.{Seed}
 use Rattle.decisions.specs.Seeds.{seeds_known, seed_table}
 use Rattle.decisions.specs.Outcomes.{Outcome, flash_of, refused, entered}
 use Rattle.decisions.specs.Performing.{decided}
-use Rattle.log.specs.Calls.{anchor_call, anchored, put_anchor_of, format_on, format_of}
+use Rattle.counter_log.specs.Calls.{anchor_call, anchored, put_anchor_of, format_on, format_of}
 use Rattle.tries.specs.Tries.{start_of, spend_decision, set_decision, set_of, seen_of}
 use Rattle.demands.specs.Chance.{Unmatched}
 use Rattle.demands.specs.Seen.{seen, Table, holding, table_in, table_of}

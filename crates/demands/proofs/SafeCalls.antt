@@ -34,7 +34,7 @@ use Rattle.decisions.specs.declared.seeds.Seed.{Seed}
 use Rattle.decisions.specs.Seeds.{all_known, seeds_known, seed_table}
 use Rattle.decisions.specs.Outcomes.{Outcome, flash_of, refused, entered}
 use Rattle.decisions.specs.Performing.{decided, formatted}
-use Rattle.log.specs.Calls.{is_first, anchor_call, anchored_first, anchored, put_anchor_of, format_on, format_of}
+use Rattle.counter_log.specs.Calls.{is_first, anchor_call, anchored_first, anchored, put_anchor_of, format_on, format_of}
 use Rattle.demands.specs.Chance.{Unmatched}
 use Rattle.demands.specs.Healthy.{healthy}
 use Rattle.demands.specs.Seen.{Seen, seen_by, seen, Table, holding, table_in, table_of}

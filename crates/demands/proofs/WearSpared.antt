@@ -32,7 +32,7 @@ use Rattle.decisions.specs.declared.seeds.Seed.{Seed}
 use Rattle.decisions.specs.Seeds.{seeds_known, seed_table}
 use Rattle.decisions.specs.Outcomes.{Outcome, flash_of, refused, entered}
 use Rattle.decisions.specs.Performing.{written_outcome, appended, performed, decided, formatted}
-use Rattle.log.specs.Calls.{is_first, anchor_call, anchored_first, anchored, put_anchor_of, format_on, format_of}
+use Rattle.counter_log.specs.Calls.{is_first, anchor_call, anchored_first, anchored, put_anchor_of, format_on, format_of}
 use Rattle.demands.specs.Healthy.{unlimited}
 use Rattle.demands.specs.Calls.{Call, outcome_of}
 use Rattle.demands.specs.Wear.{Alike, UnitsToSpare}

@@ -17,7 +17,7 @@ use Rattle.reads.specs.Entering.{held_of}
 use Rattle.decisions.specs.declared.seeds.Seed.{Seed}
 use Rattle.decisions.specs.Outcomes.{Outcome, flash_of}
 use Rattle.decisions.specs.Performing.{formatted}
-use Rattle.log.specs.Calls.{is_first, put_of, put_value_of, put_anchor_of, format_of}
+use Rattle.counter_log.specs.Calls.{is_first, put_of, put_value_of, put_anchor_of, format_of}
 use Rattle.tries.specs.Tries.{start_of, spend_of, set_of, seen_of, advance_of}
 use Rattle.demands.specs.Chance.{Unmatched}
 use Rattle.demands.specs.Healthy.{healthy}

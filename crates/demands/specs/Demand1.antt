@@ -22,7 +22,7 @@ use Rattle.reads.specs.declared.Anchored.{Anchored}
 use Rattle.reads.specs.declared.Told.{Told}
 use Rattle.reads.specs.Reads.{get_of, value_of, anchor_of, lamport_of, needs_migration_of, counter_says, number_says, anchored_says}
 use Rattle.decisions.specs.Seeds.{seeds_known}
-use Rattle.log.specs.Calls.{is_first}
+use Rattle.counter_log.specs.Calls.{is_first}
 use Rattle.decisions.specs.Outcomes.{flash_of, refused}
 use Rattle.tries.specs.declared.TriesLeft.{TriesLeft}
 use Rattle.tries.specs.Tries.{tries_left_of, tries_left_says, load_of}

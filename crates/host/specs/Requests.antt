@@ -9,7 +9,7 @@ use Rattle.records.specs.declared.Log.{Log}
 use Rattle.decisions.specs.declared.seeds.Seed.{Seed}
 use Rattle.decisions.specs.Seeds.{seeds_most}
 use Rattle.decisions.specs.Outcomes.{Outcome, flash_of, refused}
-use Rattle.log.specs.Calls.{put_of, put_value_of, put_anchor_of, format_of}
+use Rattle.counter_log.specs.Calls.{put_of, put_value_of, put_anchor_of, format_of}
 use Rattle.tries.specs.Tries.{spend_of, set_of, advance_of}
 use Rattle.host.specs.declared.requests.Kind.{Kind}
 use Rattle.host.specs.declared.requests.Kind.TheVariants.{Nothing, Put, PutValue, PutAnchor, Format, Spend, Set, AdvanceLamport, Program, Erase}

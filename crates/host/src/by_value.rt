@@ -29,10 +29,10 @@ pub fn meet(image: &mut [u8], log: Log, plan: Plan, request: Request) -> Done
     let bytes = request.bytes;
     match kind {
         Kind::Nothing => decisions::answered(Answer::Done, 0, log, decisions::unused(plan)),
-        Kind::Put { credential, new } => log::put(image, log, plan, credential, new),
-        Kind::PutValue { id, new } => log::put_value(image, log, plan, id, new),
-        Kind::PutAnchor(new) => log::put_anchor(image, log, plan, new),
-        Kind::Format { count } => log::format(image, log, plan, seeds, count),
+        Kind::Put { credential, new } => counter_log::put(image, log, plan, credential, new),
+        Kind::PutValue { id, new } => counter_log::put_value(image, log, plan, id, new),
+        Kind::PutAnchor(new) => counter_log::put_anchor(image, log, plan, new),
+        Kind::Format { count } => counter_log::format(image, log, plan, seeds, count),
         Kind::Spend {
             credential,
             current,

@@ -1,5 +1,6 @@
 // "Tries": the applets' helpers. What each comes to is defined in specs/Tries.antt.
 // Here stand remaining and load, which only read; `reads::lamport` is the clock's reader.
+#![tactic(auto)]
 
 mod spends; // spend, set
 mod clock; // advance_lamport

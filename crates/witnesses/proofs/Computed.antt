@@ -25,7 +25,7 @@ use Rattle.reads.specs.Entering.{entry_answer, held_of, room_for}
 use Rattle.decisions.specs.Seeds.{seeded, all_known}
 use Rattle.decisions.specs.Outcomes.{entered}
 use Rattle.decisions.specs.Performing.{performed}
-use Rattle.log.specs.Calls.{format_of}
+use Rattle.counter_log.specs.Calls.{format_of}
 use Rattle.tries.specs.Tries.{start_of, spend_from, spend_of, advance_from, advance_of}
 use Rattle.demands.specs.Chance.{cut_at}
 use Rattle.demands.specs.Healthy.{healthy}

@@ -20,7 +20,7 @@ use Rattle.decisions.specs.Decisions.{value_decision, anchor_write, anchor_decis
 use Rattle.reads.specs.Entering.{entry_answer, held_of, room_for}
 use Rattle.decisions.specs.Outcomes.{entered}
 use Rattle.decisions.specs.Performing.{performed}
-use Rattle.log.specs.Calls.{put_value_of, put_anchor_of}
+use Rattle.counter_log.specs.Calls.{put_value_of, put_anchor_of}
 use Rattle.worked.specs.Table.{Row, table}
 
 unfoldable pub AllRight : List Row → Type 0

@@ -16,7 +16,7 @@ use Rattle.records.specs.declared.State.TheVariants.{Active}
 use Rattle.records.specs.declared.Log.{Log}
 use Rattle.records.specs.Logs.{log_of, records_of}
 use Rattle.decisions.specs.Outcomes.{Outcome, flash_of, refused}
-use Rattle.log.specs.Calls.{put_value_of, put_anchor_of}
+use Rattle.counter_log.specs.Calls.{put_value_of, put_anchor_of}
 
 -- `kind`: the type of what is compared
 pub record Row : Type 1 where

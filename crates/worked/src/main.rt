@@ -197,15 +197,15 @@ fn user_pin() -> [Seed; 8] {
 fn four_over_five() {
     let mut image = [0xFFu8; 8192];
     let blank = records::empty(State::Unformatted, 1);
-    let d = log::format(&mut image, blank, calm(), user_pin(), 0);
+    let d = counter_log::format(&mut image, blank, calm(), user_pin(), 0);
     let l = call_line(b"format, no seeds: ", &image, d);
-    let d = log::put_value(&mut image, l, calm(), ids::LAMPORT, 5);
+    let d = counter_log::put_value(&mut image, l, calm(), ids::LAMPORT, 5);
     let l = call_line(b"lamport 5: ", &image, d);
-    let d = log::put_value(&mut image, l, calm(), ids::LAMPORT, 4);
+    let d = counter_log::put_value(&mut image, l, calm(), ids::LAMPORT, 4);
     let l = call_line(b"lamport 4 over 5: ", &image, d);
-    let d = log::put_value(&mut image, l, calm(), ids::SIGNATURE_COUNTER, 5);
+    let d = counter_log::put_value(&mut image, l, calm(), ids::SIGNATURE_COUNTER, 5);
     let l = call_line(b"signature counter 5: ", &image, d);
-    let d = log::put_value(&mut image, l, calm(), ids::SIGNATURE_COUNTER, 4);
+    let d = counter_log::put_value(&mut image, l, calm(), ids::SIGNATURE_COUNTER, 4);
     let _ = call_line(b"signature counter 4 over 5: ", &image, d);
     listed(&image);
 }
@@ -243,7 +243,7 @@ fn one_spend() {
     let mut image = [0xFFu8; 8192];
     let o = scan::open(&image);
     let blank = o.log;
-    let d = log::format(&mut image, blank, calm(), user_pin(), 1);
+    let d = counter_log::format(&mut image, blank, calm(), user_pin(), 1);
     let log = call_line(b"format: ", &image, d);
     let d = tries::spend(&mut image, log, calm(), 1, 9);
     let _ = call_line(b"spend: ", &image, d);
@@ -254,25 +254,25 @@ fn one_spend() {
 fn turned_away() {
     let pin = CounterState::fresh(3);
     let mut short = [0xFFu8; 4095];
-    let d = log::put(&mut short, crowded(33), calm(), 1, pin);
+    let d = counter_log::put(&mut short, crowded(33), calm(), 1, pin);
     let _ = call_line(b"4,095 bytes: ", &short, d);
     let mut image = [0xFFu8; 8192];
-    let d = log::put(&mut image, crowded(257), calm(), 1, pin);
+    let d = counter_log::put(&mut image, crowded(257), calm(), 1, pin);
     let _ = call_line(b"head 257: ", &image, d);
-    let d = log::put(&mut image, crowded(33), calm(), 9, pin);
+    let d = counter_log::put(&mut image, crowded(33), calm(), 9, pin);
     let _ = call_line(b"credential 9: ", &image, d);
     let blank = records::empty(State::Unformatted, 1);
-    let d = log::put(&mut image, blank, calm(), 1, pin);
+    let d = counter_log::put(&mut image, blank, calm(), 1, pin);
     let _ = call_line(b"put, unformatted: ", &image, d);
     let failed = records::empty(State::Failed, 1);
-    let d = log::put(&mut image, failed, calm(), 1, pin);
+    let d = counter_log::put(&mut image, failed, calm(), 1, pin);
     let _ = call_line(b"put, failed: ", &image, d);
 }
 
 // One that gets each of 6, 7, 8 and 9, and what it leaves.
 fn refused() {
     let mut image = [0xFFu8; 8192];
-    let d = log::format(&mut image, crowded(33), calm(), user_pin(), 1);
+    let d = counter_log::format(&mut image, crowded(33), calm(), user_pin(), 1);
     let _ = call_line(b"format, active: ", &image, d);
     let erase_refused = Plan {
         limited: false,
@@ -281,13 +281,13 @@ fn refused() {
         refuse_programs: 0,
     };
     let blank = records::empty(State::Unformatted, 1);
-    let d = log::format(&mut image, blank, erase_refused, user_pin(), 1);
+    let d = counter_log::format(&mut image, blank, erase_refused, user_pin(), 1);
     let _ = call_line(b"format, erases refused: ", &image, d);
-    let d = log::put_value(&mut image, crowded(33), calm(), 5, 4);
+    let d = counter_log::put_value(&mut image, crowded(33), calm(), 5, 4);
     let _ = call_line(b"a 33rd key: ", &image, d);
-    let d = log::put(&mut image, crowded(33), calm(), 1, counter(3, 2, 0));
+    let d = counter_log::put(&mut image, crowded(33), calm(), 1, counter(3, 2, 0));
     let l = call_line(b"put of total 2: ", &image, d);
-    let d = log::put(&mut image, l, calm(), 1, counter(3, 1, 0));
+    let d = counter_log::put(&mut image, l, calm(), 1, counter(3, 1, 0));
     let _ = call_line(b"put of total 1 over it: ", &image, d);
 }
 
