@@ -1,5 +1,6 @@
 // The host build: what can be asked of the flash, on a plan that is lent and run down in place, call after call.
 // `call` takes the plan out whole, meets the request by value, and puts back whole what was left of it.
+#![tactic(auto)]
 
 mod requests; // what can be asked, as a value
 mod places; // a program and an erase alone, where the image has the place
