@@ -1,1 +1,2 @@
 // Theorems only: what the calls promise together.
+#![tactic(auto)]
