@@ -1,6 +1,5 @@
 -- `crc::update` meets its contract.
 use mathlib.Core.Path.{refl, sym, ◌∙◌}
-use Prim.Native.Nat.{◌-◌}
 use native.Mathlib.Omega.{arith}
 use Rattle.crc.proofs.RegisterRunning.{feed-step, feed_end}
 use Rattle.crc.proofs.update.Goals as goal

@@ -1,7 +1,7 @@
 -- `records::find` meets its contract.
 use mathlib.Core.Path.{◌≡◌, sym, ◌∙◌}
 use mathlib.Core.List.{List}
-use Prim.Native.Nat.{ℕ, ◌-◌}
+use Prim.Native.Nat.{ℕ}
 use native.Mathlib.Nat.{zero-add}
 use native.Mathlib.Omega.{arith}
 use lib.ListN.{length, take}
@@ -39,11 +39,11 @@ loop-i-preserved c =
     let id-here = get_or-take a.count a.ids.now loop.i 0 (omega arith) in (
       omega arith,
       elim c.if-tags-i.branch [
-        then-tags-i+else-ids-i w ↦
+        | then-tags-i+else-ids-i w ↦
             sym
             (found-past_id a.tag a.id tags-of ids-of loop.i (omega (arith, tags_long)) (omega (arith, ids_long))
             (tag-here ∙ w.if-tags-i.true) (λ e. w.if-ids-i.false (sym id-here ∙ e)))
-      | else-tags-i w ↦
+        | else-tags-i w ↦
             sym
             (found-past-tag a.tag a.id tags-of ids-of loop.i (omega (arith, tags_long)) (omega (arith, ids_long))
             (λ e. w.if-tags-i.false (sym tag-here ∙ e)))

@@ -1,6 +1,5 @@
 -- The place found is the first that holds the number.
 use mathlib.Core.Path.{sym, ◌∙◌}
-use Prim.Native.Nat.{◌-◌}
 use native.Mathlib.Omega.{arith}
 use Rattle.ids.specs.Ids.{credentials}
 use Rattle.ids.proofs.IdsLaws.{place_end, place-hit, place-miss}

@@ -1,7 +1,6 @@
 -- The bits met so far, and zeros from here on, say what the zeros of all places past the count say.
 use mathlib.Core.Path.{refl, sym, ap, ◌∙◌}
 use mathlib.Core.Bool.{Bool, ◌&&◌, and-true}
-use Prim.Native.Nat.{◌-◌}
 use native.Mathlib.Omega.{arith}
 use lib.Dec.{eqb}
 use Rattle.records.proofs.FittingZeros.{zeros_end, zeros-turn}

@@ -2,7 +2,7 @@
 use mathlib.Core.Path.{◌≡◌, sym, ◌∙◌}
 use mathlib.Core.List.{List}
 use mathlib.Core.Bool.{false}
-use Prim.Native.Nat.{◌-◌, ◌<◌}
+use Prim.Native.Nat.{◌<◌}
 use native.Mathlib.Omega.{arith}
 use lib.ListN.{length, get_or, take}
 use lib.Seq.{get_or-take, length-take-le}
@@ -46,20 +46,20 @@ loop-i-preserved c =
     let s = c.loop-i.invariant.1 in
     let fresh : holds record_read.tag record_read.id (take c.loop-i.i records-of) ≡ false =
     elim c.if-met-mark-ne0.branch [
-      then-met-mark-ne0+else-find-i w ↦ not-met s _ _ (rw w.find.ensures at w.if-find-i.false)
-    | else-met-mark-ne0 w ↦ s.unmet _ _ w.if-met-mark-ne0.false
+      | then-met-mark-ne0+else-find-i w ↦ not-met s _ _ (rw w.find.ensures at w.if-find-i.false)
+      | else-met-mark-ne0 w ↦ s.unmet _ _ w.if-met-mark-ne0.false
     ] in
     let r = record_read in
     let a = c.args in (
       c.loop-i.invariant.0,
       elim c.if-r-tag.branch [
-        then-r-tag+then-r-id w ↦
+        | then-r-tag+then-r-id w ↦
             rw (w.at-is, w.held-is)
             (hit s more here (omega arith) c.if-r.false fresh (rw (eq-eqb r.tag a.tag w.if-r-tag.true, eq-eqb r.id a.id w.if-r-id.true)))
-      | then-r-tag+else-r-id w ↦
+        | then-r-tag+else-r-id w ↦
             rw (w.at-is, w.held-is)
             (miss s more here (omega arith) c.if-r.false fresh (rw (eq-eqb r.tag a.tag w.if-r-tag.true, ne_eqb r.id a.id w.if-r-id.false)))
-      | else-r-tag w ↦
+        | else-r-tag w ↦
             rw (w.at-is, w.held-is) (miss s more here (omega arith) c.if-r.false fresh (rw (ne_eqb r.tag a.tag w.if-r-tag.false)))
       ],
     )

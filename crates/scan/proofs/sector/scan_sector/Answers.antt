@@ -10,7 +10,7 @@ use Rattle.scan.specs.Opening.{region_read}
 use mathlib.Core.Path.{◌≡◌, refl, sym, ap, ap₂, ◌∙◌}
 use mathlib.Core.Bool.{false}
 use mathlib.Core.List.{List, []}
-use Prim.Native.Nat.{ℕ, ◌-◌, ◌≤◌, ◌<◌}
+use Prim.Native.Nat.{ℕ, ◌≤◌, ◌<◌}
 use native.Mathlib.Omega.{arith}
 use lib.ListN.{get_or, take}
 use Rattle.basics.specs.Lists.{all_are}
@@ -171,8 +171,7 @@ loop-k-preserved c =
     let used : let l = c in all_are 0xFF (slots-of l.loop-k.k) ≡ false = let d = c in sym erased-is ∙ d.if-is_erased.false in
     let record_is : let l = c in decoded seq-of (slots-of l.loop-k.k) ≡ some raw_read = let there = not-false c.decode_from-d.result.some c.if-not-d.false in
     sym decoded-is ∙ (λ i. record { some = there i; raw = raw_read }) in
-    let place_is : c.find-at.result ≡ place_of raw_read.tag raw_read.id held.found = c.find-at.ensures ∙ place_found _ _ _ _ _ _ _ _ held going raw_read.tag raw_read.id in
-    (
+    let place_is : c.find-at.result ≡ place_of raw_read.tag raw_read.id held.found = c.find-at.ensures ∙ place_found _ _ _ _ _ _ _ _ held going raw_read.tag raw_read.id in (
       c.loop-k.invariant.0,
       add _ _ _ _ _ _ _ _ held going used raw_read record_is (omega (arith, place_is, c.if-at-count.false))
           (omega (arith, held.most, c.if-count-eq-LIMIT.false)),

@@ -1,7 +1,7 @@
 -- `sectors::appends::try_slots` meets its contract.
 use mathlib.Core.Path.{◌≡◌}
 use mathlib.Core.Bool.{Bool}
-use Prim.Native.Nat.{◌+◌, ◌*◌, ◌-◌, ◌≤◌}
+use Prim.Native.Nat.{◌+◌, ◌*◌, ◌≤◌}
 use lib.ListN.{length}
 use Rattle.basics.specs.declared.Answer.TheVariants.{WriteError}
 use Rattle.sectors.specs.Appends.{tries_from}

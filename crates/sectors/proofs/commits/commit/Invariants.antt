@@ -1,7 +1,7 @@
 -- `sectors::commits::commit` meets its contract.
 use mathlib.Core.Path.{◌≡◌}
 use mathlib.Core.Bool.{Bool}
-use Prim.Native.Nat.{◌+◌, ◌*◌, ◌-◌, ◌≤◌, ◌<◌}
+use Prim.Native.Nat.{◌+◌, ◌*◌, ◌≤◌, ◌<◌}
 use lib.ListN.{length, take}
 use Rattle.basics.specs.declared.Answer.TheVariants.{WriteError}
 use Rattle.records.specs.Table.{limit}

@@ -2,7 +2,7 @@
 use mathlib.Core.Path.{◌≡◌, refl, sym, ap, ◌∙◌}
 use mathlib.Core.Bool.{Bool, true}
 use mathlib.Core.List.{List}
-use Prim.Native.Nat.{ℕ, ◌+◌, ◌*◌, ◌-◌, ◌≤◌}
+use Prim.Native.Nat.{ℕ, ◌+◌, ◌*◌, ◌≤◌}
 use native.Mathlib.Omega.{arith}
 use lib.ListN.{length, get_or, take, drop}
 use lib.Seq.{length-take-le, get_or-take}
@@ -70,8 +70,7 @@ loop-i-preserved c =
     let most =
     (program-within a.sector (c.loop-i.i + 1) (slot_of a.seq (get_or records-of c.loop-i.i nowhere)) (flash-of true)
     ).programmed in
-    omega (arith, same, most, c.loop-i.invariant.3) in
-    (
+    omega (arith, same, most, c.loop-i.invariant.3) in (
       c.loop-i.invariant.0,
       omega arith,
       c.program-s.auto.image ∙ c.loop-i.invariant.2,

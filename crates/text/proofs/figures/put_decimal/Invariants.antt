@@ -1,5 +1,4 @@
 -- `text::figures::put_decimal` meets its contract. The loop's invariant: the digits from `first` on are written, and `rest` is left.
-use Prim.Native.Nat.{◌-◌}
 use Rattle.text.proofs.TextDecimal.{Spelling}
 use Rattle.text.proofs.figures.put_decimal.Given as goal
 
