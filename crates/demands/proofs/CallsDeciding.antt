@@ -20,7 +20,7 @@ use Rattle.ids.specs.declared.Anchor.{Anchor}
 use Rattle.ids.specs.Ids.{counter_tag, value_tag, anchor_tag, anchor_seq_max, is_monotonic}
 use Rattle.codec.specs.declared.Raw.{Raw}
 use Rattle.codec.specs.declared.OptRaw.{OptRaw}
-use Rattle.codec.specs.Slots.{no_raw, some}
+use Rattle.codec.specs.Slots.{no_raw}
 use Rattle.bodies.specs.Bodies.{counter_body, counter_record, counter_in, value_body, value_record, value_in, anchor_body, anchor_record, anchor_in}
 use Rattle.bodies.specs.declared.AnchorRecord.{AnchorRecord}
 use Rattle.bodies.proofs.BodiesRoundTrip.{value_read}

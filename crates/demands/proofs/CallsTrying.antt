@@ -27,7 +27,6 @@ use Rattle.records.specs.Table.{place_of}
 use Rattle.records.proofs.TableJoining.{nowhere}
 use Rattle.records.proofs.LogsOwned.{Whole, AllWhole}
 use Rattle.decisions.specs.declared.Decision.{Decision}
-use Rattle.decisions.specs.Decisions.{write}
 use Rattle.reads.specs.Entering.{held_of, room_for}
 use Rattle.reads.proofs.EnteringLaws.{held_at}
 use Rattle.tries.specs.Tries.{start_of, spent_by, spend_from, spend_decision, set_decision, lamport_max, seen_of, advance_from, advance_decision}

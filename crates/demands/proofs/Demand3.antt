@@ -11,7 +11,7 @@ use Rattle.decisions.specs.Outcomes.{Outcome}
 use Rattle.demands.specs.Seen.{Seen, seen, Table, table_in, table_of}
 use Rattle.records.specs.Logs.{records_of}
 use Rattle.demands.specs.Chance.{Unmatched}
-use Rattle.demands.specs.Calls.{Typed, table_after, NoEffect, record_of, appends_to}
+use Rattle.demands.specs.Calls.{table_after, NoEffect, record_of, appends_to}
 use Rattle.demands.specs.Sessions.{World, opened, Made, outcome, afterwards, played, AllTyped, Lasts, Powered, now}
 use Rattle.demands.specs.Demand3.{FindsAgain, WakesWith, Demand3Powered, Demand3Cut}
 use Rattle.demands.proofs.Invariant.{Inv, inv_open, open_inv}

@@ -5,9 +5,8 @@ use mathlib.Core.List.{List, [], ◌∷◌}
 use mathlib.Core.Logic.{◌⊎◌, inl, inr}
 use Prim.Native.Nat.{ℕ, ◌+◌, ◌<◌}
 use native.Mathlib.Omega.{arith}
-use lib.Dec.{T, eqb}
+use lib.Dec.{eqb}
 use lib.ListN.{length}
-use lib.Pow.{are_bytes}
 use borrow.Author.Tests.{eqb-true}
 use Rattle.basics.specs.Choice.{pick}
 use Rattle.basics.specs.Answers.{is_done}
@@ -20,7 +19,6 @@ use Rattle.ids.specs.Counters.{fresh_of, remaining_of, one_more, reset_of}
 use Rattle.ids.proofs.IdsLaws.{remaining_reset, failure_takes_one}
 use Rattle.codec.specs.declared.Raw.{Raw}
 use Rattle.codec.specs.declared.OptRaw.{OptRaw}
-use Rattle.codec.specs.Slots.{some}
 use Rattle.bodies.specs.Bodies.{counter_record, counter_in, value_record, anchor_body, anchor_record}
 use Rattle.bodies.proofs.BodiesRoundTrip.{counter-read}
 use Rattle.flash.specs.declared.Plan.{Plan}
@@ -49,7 +47,7 @@ use Rattle.demands.specs.Calls.{record_of, anchor_to, appends_to}
 use Rattle.demands.specs.Sessions.{World, opened, Made, outcome, afterwards, played, AllTyped, Lasts, now}
 use Rattle.demands.specs.Figures.{decision_of}
 use Rattle.demands.specs.PulledStick.{woken, Lucky, Remain, Has, a_set, KeepsSet, sets, begun, LeavesTries, NoneSets, begun_in}
-use Rattle.demands.specs.PulledStick.{Between, Finds, KeepsCount, PulledSet, PulledOther, PulledSession}
+use Rattle.demands.specs.PulledStick.{Between, Finds, PulledSet, PulledOther, PulledSession}
 use Rattle.demands.proofs.Invariant.{Found, Inv, inv_open, open_inv}
 use Rattle.demands.proofs.SafePerforming.{Always, WakesUp, SafeCall, lasted, stopped, refusal-safe, decided_table}
 use Rattle.demands.proofs.CallsDeciding.{Decided, refuses, gives, writes, Sound, put-decided, value-decided, held-blank}

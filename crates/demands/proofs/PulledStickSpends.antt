@@ -5,9 +5,8 @@ use mathlib.Core.List.{List, [], ◌∷◌}
 use mathlib.Core.Logic.{◌⊎◌, inl, inr}
 use Prim.Native.Nat.{ℕ, suc, ◌+◌, ◌<◌}
 use native.Mathlib.Omega.{arith}
-use lib.Dec.{T, eqb}
+use lib.Dec.{eqb}
 use lib.ListN.{length, get_or}
-use lib.Pow.{are_bytes}
 use borrow.Author.Tests.{eq-eqb, ne_eqb, eqb-true, eqb-false}
 use Rattle.basics.specs.Choice.{pick}
 use Rattle.basics.specs.Answers.{is_done}
@@ -31,7 +30,7 @@ use Rattle.records.specs.declared.Log.{Log}
 use Rattle.records.specs.Table.{has_key, same_key, place_of, holds, joined}
 use Rattle.records.specs.Logs.{records_of}
 use Rattle.decisions.specs.declared.Decision.{Decision}
-use Rattle.decisions.specs.Decisions.{when_active, write, give}
+use Rattle.decisions.specs.Decisions.{when_active, give}
 use Rattle.reads.specs.Entering.{held_of, room_for, entry_answer}
 use Rattle.tries.specs.Tries.{start_of, spent_by, spend_from, spend_decision, spend_of}
 use Rattle.demands.specs.Seen.{seen_by, Table, blank, broken, holding, table_in, table_of, seen}
