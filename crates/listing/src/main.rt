@@ -1,5 +1,6 @@
 // The program `listing`: lists the image on its standard input.
 #![tactic(auto)]
+
 ghost use Rattle.std.specs.Prelude.{◌≤◌, length, IfOk};
 
 use flash::LARGEST;
