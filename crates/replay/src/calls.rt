@@ -12,7 +12,7 @@ use records::Log;
 use script::{Given, MAX_8, MAX_16, MAX_32, MAX_64, Numbers};
 
 // What a call on an image answered.
-#[derive(Drop)]
+#[derive(Clone, Copy)]
 pub struct Work {
     pub ok: bool,
     pub value: Given,
@@ -20,7 +20,7 @@ pub struct Work {
 }
 
 // What can write.
-#[derive(Drop)]
+#[derive(Clone, Copy)]
 enum Call {
     Put,
     PutValue,
@@ -36,7 +36,7 @@ enum Call {
 }
 
 // The seeds on a line.
-#[derive(Drop)]
+#[derive(Clone, Copy)]
 struct Seeds {
     ok: bool,
     seeds: [Seed; SEEDS],

@@ -1,10 +1,11 @@
 // What a call changed of the image, as runs of hex: the image is copied before it, and compared behind it. And the image as a whole.
-ghost use Rattle.std.specs.Prelude.{◌≡◌, ◌+◌, ◌<◌, ◌≤◌, length};
+ghost use Rattle.std.specs.Prelude.{◌≡◌, ◌+◌, ◌<◌, ◌≤◌, length, IfOk};
 
 use crate::output;
+use std::io;
 
 // Where a run of changed bytes was put up to, and where it ends in the image.
-#[derive(Drop)]
+#[derive(Clone, Copy)]
 struct Written {
     to: usize,
     end: usize,
@@ -59,61 +60,74 @@ fn next_change(old: &[u8], new: &[u8], from: usize) -> usize
 }
 
 // One run of changed bytes, whose first is at `from`.
-fn run(out: &mut [u8], at: usize, old: &[u8], new: &[u8], from: usize) -> Written
+fn run(
+    rt: &impl Print,
+    out: &mut [u8],
+    at: usize,
+    old: &[u8],
+    new: &[u8],
+    from: usize,
+) -> io::Result<Written>
     requires in_bounds { (64 ≤ length out.old) × (at ≤ length out.old) }
     requires len { (length old.now ≡ length new.now) × (from < length new.now) }
-    ensures { (result.to ≤ length out.old) × (from < result.end) }
+    ensures { IfOk result (λ w. (w.to ≤ length out.old) × (from < w.end)) }
 {
-    let a = output::field(out, at, from as u64, b':');
-    let mut to = output::hex(out, a, new[from]);
+    let a = output::field(rt, out, at, from as u64, b':')?;
+    let mut to = output::hex(rt, out, a, new[from])?;
     let mut i = from + 1;
     while i < new.len() {
         if old[i] == new[i] {
-            return Written { to: to, end: i };
+            return Ok(Written { to: to, end: i });
         }
-        to = output::hex(out, to, new[i]);
+        to = output::hex(rt, out, to, new[i])?;
         i += 1;
     }
-    Written { to: to, end: i }
+    Ok(Written { to: to, end: i })
 }
 
 // A comma where a run follows.
-fn comma(out: &mut [u8], at: usize, follows: bool) -> usize
+fn comma(rt: &impl Print, out: &mut [u8], at: usize, follows: bool) -> io::Result<usize>
     requires { (64 ≤ length out.old) × (at ≤ length out.old) }
-    ensures { result ≤ length out.old }
+    ensures { IfOk result (λ to. to ≤ length out.old) }
 {
     if follows {
-        return output::byte(out, at, b',');
+        return output::byte(rt, out, at, b',');
     }
-    at
+    Ok(at)
 }
 
 // The runs of bytes that differ.
-pub fn changes(out: &mut [u8], at: usize, old: &[u8], new: &[u8]) -> usize
+pub fn changes(
+    rt: &impl Print,
+    out: &mut [u8],
+    at: usize,
+    old: &[u8],
+    new: &[u8],
+) -> io::Result<usize>
     requires in_bounds { (64 ≤ length out.old) × (at ≤ length out.old) }
     requires len { length old.now ≡ length new.now }
-    ensures { result ≤ length out.old }
+    ensures { IfOk result (λ to. to ≤ length out.old) }
 {
     let mut to = at;
     let mut from = next_change(old, new, 0);
     while from < new.len() {
-        let r = run(out, to, old, new, from);
+        let r = run(rt, out, to, old, new, from)?;
         from = next_change(old, new, r.end);
-        to = comma(out, r.to, from < new.len());
+        to = comma(rt, out, r.to, from < new.len())?;
     }
-    to
+    Ok(to)
 }
 
 // Puts the whole image in hex.
-pub fn dump(out: &mut [u8], at: usize, image: &[u8]) -> usize
+pub fn dump(rt: &impl Print, out: &mut [u8], at: usize, image: &[u8]) -> io::Result<usize>
     requires { (64 ≤ length out.old) × (at ≤ length out.old) }
-    ensures { result ≤ length out.old }
+    ensures { IfOk result (λ to. to ≤ length out.old) }
 {
     let mut to = at;
     let mut i: usize = 0;
     while i < image.len() {
-        to = output::hex(out, to, image[i]);
+        to = output::hex(rt, out, to, image[i])?;
         i += 1;
     }
-    output::byte(out, to, b'\n')
+    output::byte(rt, out, to, b'\n')
 }

@@ -1,73 +1,73 @@
 // Text to standard output by way of a lent buffer: where a piece may not fit, what stands in the buffer is written first.
 // Each function answers the place one past what it put.
-ghost use Rattle.std.specs.Prelude.{◌+◌, ◌≤◌, length};
+ghost use Rattle.std.specs.Prelude.{◌+◌, ◌≤◌, length, IfOk};
 
-use libc::STDOUT_FILENO;
+use std::io;
 
 // The longest piece that is put at once.
 const PIECE: usize = 64;
 
 // Writes what stands in the buffer.
-pub fn flush(out: &[u8], at: usize)
+pub fn flush(rt: &impl Print, out: &[u8], at: usize) -> io::Result<()>
     requires { at ≤ length out.now }
 {
-    io::write_all(STDOUT_FILENO, &out[0..at]);
+    rt.write_all(&out[0..at])
 }
 
 // A place with room for a piece: this one, or the buffer's start after a flush.
-fn room(out: &[u8], at: usize) -> usize
+fn room(rt: &impl Print, out: &[u8], at: usize) -> io::Result<usize>
     requires { (64 ≤ length out.now) × (at ≤ length out.now) }
-    ensures { result + 64 ≤ length out.now }
+    ensures { IfOk result (λ to. to + 64 ≤ length out.now) }
 {
     if at <= out.len() - PIECE {
-        return at;
+        return Ok(at);
     }
-    flush(out, at);
-    0
+    flush(rt, out, at)?;
+    Ok(0)
 }
 
 // Puts a byte.
-pub fn byte(out: &mut [u8], at: usize, b: u8) -> usize
+pub fn byte(rt: &impl Print, out: &mut [u8], at: usize, b: u8) -> io::Result<usize>
     requires { (64 ≤ length out.old) × (at ≤ length out.old) }
-    ensures { result ≤ length out.old }
+    ensures { IfOk result (λ to. to ≤ length out.old) }
 {
-    let to = room(out, at);
-    text::put_byte(out, to, b)
+    let to = room(rt, out, at)?;
+    Ok(text::put_byte(out, to, b))
 }
 
 // Puts a piece of text.
-pub fn bytes(out: &mut [u8], at: usize, piece: &[u8]) -> usize
+pub fn bytes(rt: &impl Print, out: &mut [u8], at: usize, piece: &[u8]) -> io::Result<usize>
     requires in_bounds { (64 ≤ length out.old) × (at ≤ length out.old) }
     requires piece_len_bound { length piece.now ≤ 64 }
-    ensures { result ≤ length out.old }
+    ensures { IfOk result (λ to. to ≤ length out.old) }
 {
-    let to = room(out, at);
-    text::put_bytes(out, to, piece)
+    let to = room(rt, out, at)?;
+    Ok(text::put_bytes(out, to, piece))
 }
 
 // Puts a number in decimal.
-pub fn number(out: &mut [u8], at: usize, x: u64) -> usize
+pub fn number(rt: &impl Print, out: &mut [u8], at: usize, x: u64) -> io::Result<usize>
     requires { (64 ≤ length out.old) × (at ≤ length out.old) }
-    ensures { result ≤ length out.old }
+    ensures { IfOk result (λ to. to ≤ length out.old) }
 {
-    let to = room(out, at);
-    text::put_decimal(out, to, x)
+    let to = room(rt, out, at)?;
+    Ok(text::put_decimal(out, to, x))
 }
 
 // Puts a number in decimal, and the byte behind it.
-pub fn field(out: &mut [u8], at: usize, x: u64, behind: u8) -> usize
+pub fn field(rt: &impl Print, out: &mut [u8], at: usize, x: u64, behind: u8) -> io::Result<usize>
     requires { (64 ≤ length out.old) × (at ≤ length out.old) }
-    ensures { result ≤ length out.old }
+    ensures { IfOk result (λ to. to ≤ length out.old) }
 {
-    let to = number(out, at, x);
-    byte(out, to, behind)
+    let to = number(rt, out, at, x)?;
+    byte(rt, out, to, behind)
 }
 
 // Puts a byte in hex.
-pub fn hex(out: &mut [u8], at: usize, b: u8) -> usize
+pub fn hex(rt: &impl Print, out: &mut [u8], at: usize, b: u8) -> io::Result<usize>
     requires { (64 ≤ length out.old) × (at ≤ length out.old) }
-    ensures { result ≤ length out.old }
+    ensures { IfOk result (λ to. to ≤ length out.old) }
 {
-    let to = room(out, at);
-    text::put_hex(out, to, b)
+    let to = room(rt, out, at)?;
+    Ok(text::put_hex(out, to, b))
 }

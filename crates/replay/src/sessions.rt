@@ -1,6 +1,6 @@
 // How far a script is: its start, the lines that need no call, and the end of a chunk.
 // These are passed over, or are save and restore; a line that can't be read ends the session.
-ghost use Rattle.std.specs.Prelude.{◌≡◌, ◌≤◌, length};
+ghost use Rattle.std.specs.Prelude.{◌≡◌, ◌≤◌, length, IfOk};
 ghost use Rattle.flash.specs.Image.{largest};
 ghost use Rattle.replay.specs.Limits.{Sound};
 
@@ -8,9 +8,10 @@ use crate::{changes, output};
 use flash::Plan;
 use records::State;
 use script::Board;
+use std::io;
 
 // How far a script is: its lines so far, where the text in the buffer ends, whether a line couldn't be read, the board, and the one kept.
-#[derive(Drop)]
+#[derive(Clone, Copy)]
 pub struct Session {
     pub lines: u64,
     pub at: usize,
@@ -20,21 +21,21 @@ pub struct Session {
 }
 
 // A session, and the place behind the last whole line of a chunk.
-#[derive(Drop)]
+#[derive(Clone, Copy)]
 pub struct Chunk {
     pub from: usize,
     pub session: Session,
 }
 
 // The bytes at the front of the input that are still to be read, and the session.
-#[derive(Drop)]
+#[derive(Clone, Copy)]
 pub struct Round {
     pub have: usize,
     pub session: Session,
 }
 
 // A session behind a line, and whether the line is done.
-#[derive(Drop)]
+#[derive(Clone, Copy)]
 pub struct Kept {
     pub ok: bool,
     pub session: Session,
@@ -70,7 +71,7 @@ pub fn too_long(session: Session) -> Session
     ensures { (result.at ≡ session.at) × (result.now.len ≡ session.now.len) × (result.kept.len ≡ session.kept.len) }
 {
     let mut s = session;
-    s.lines = std::num::wrapping_add_u64(s.lines, 1);
+    s.lines = s.lines.wrapping_add(1);
     s.over = true;
     s
 }
@@ -90,7 +91,7 @@ pub fn keeping(line: &[u8], image: &mut [u8], saved: &mut [u8], session: Session
     ensures { (result.session.at ≡ session.at) × ((result.session.now.len ≤ largest) × (result.session.kept.len ≤ largest)) }
 {
     let mut s = session;
-    s.lines = std::num::wrapping_add_u64(s.lines, 1);
+    s.lines = s.lines.wrapping_add(1);
     if is_passed(line) {
         return Kept {
             ok: true,
@@ -124,12 +125,12 @@ pub fn keeping(line: &[u8], image: &mut [u8], saved: &mut [u8], session: Session
 }
 
 // Writes that this line couldn't be read.
-fn bad_line(out: &mut [u8], at: usize, n: u64)
+fn bad_line(rt: &impl Print, out: &mut [u8], at: usize, n: u64) -> io::Result<()>
     requires { (64 ≤ length out.old) × (at ≤ length out.old) }
 {
-    let a = output::bytes(out, at, b"bad line ");
-    let b = output::field(out, a, n, b'\n');
-    output::flush(out, b);
+    let a = output::bytes(rt, out, at, b"bad line ")?;
+    let b = output::field(rt, out, a, n, b'\n')?;
+    output::flush(rt, out, b)
 }
 
 // The end of the input.
@@ -146,23 +147,29 @@ pub fn ended(session: Session) -> Round
 }
 
 // The end of a chunk: what stands in the buffer is written, and what is left of the first `all` bytes of input waits at the front.
-pub fn rest(input: &mut [u8], all: usize, out: &mut [u8], c: Chunk) -> Round
+pub fn rest(
+    rt: &impl Print,
+    input: &mut [u8],
+    all: usize,
+    out: &mut [u8],
+    c: Chunk,
+) -> io::Result<Round>
     requires in_bounds { (64 ≤ length out.old) × Sound c.session (length out.old) }
     requires from_le_all { (c.from ≤ all) × (all ≤ length input.old) }
-    ensures { (result.have ≤ length input.old) × Sound result.session (length out.old) }
+    ensures { IfOk result (λ r. (r.have ≤ length input.old) × Sound r.session (length out.old)) }
 {
     let mut s = c.session;
     if s.over {
-        bad_line(out, s.at, s.lines);
-        return Round {
+        bad_line(rt, out, s.at, s.lines)?;
+        return Ok(Round {
             have: 0,
             session: s,
-        };
+        });
     }
-    output::flush(out, s.at);
+    output::flush(rt, out, s.at)?;
     s.at = 0;
-    Round {
+    Ok(Round {
         have: script::keep(input, c.from, all),
         session: s,
-    }
+    })
 }

@@ -1,40 +1,49 @@
 // The line that is written of a call; and the lines that look at the image: open, dump and list.
-ghost use Rattle.std.specs.Prelude.{◌≡◌, ◌≤◌, length};
+ghost use Rattle.std.specs.Prelude.{◌≡◌, ◌≤◌, length, IfOk};
 
 use crate::{answers, changes, output};
 use decisions::Done;
 use script::{Board, Given, Reply, Step};
+use std::io;
 
 // The line of a call that leaves the image as it is.
-pub fn answered(out: &mut [u8], at: usize, r: Reply, board: Board) -> usize
+pub fn answered(
+    rt: &impl Print,
+    out: &mut [u8],
+    at: usize,
+    r: Reply,
+    board: Board,
+) -> io::Result<usize>
     requires { (64 ≤ length out.old) × (at ≤ length out.old) }
-    ensures { result ≤ length out.old }
+    ensures { IfOk result (λ to. to ≤ length out.old) }
 {
     let answer = r.answer;
     let value = r.value;
     let plan = board.plan;
     let log = board.log;
-    let a = answers::answer(out, at, basics::number(answer), value, 0, 0, plan, log);
-    output::byte(out, a, b'\n')
+    let a = answers::answer(rt, out, at, basics::number(answer), value, 0, 0, plan, log)?;
+    output::byte(rt, out, a, b'\n')
 }
 
 // The line of a call that may have changed the image.
 pub fn worked(
+    rt: &impl Print,
     out: &mut [u8],
     at: usize,
     value: Given,
     d: Done,
     before: &[u8],
     image: &[u8],
-) -> usize
+) -> io::Result<usize>
     requires in_bounds { (64 ≤ length out.old) × (at ≤ length out.old) }
     requires before_len { length before.now ≡ length image.now }
-    ensures { result ≤ length out.old }
+    ensures { IfOk result (λ to. to ≤ length out.old) }
 {
     let answer = d.answer;
     let plan = d.plan;
     let log = d.log;
     let a = answers::answer(
+        rt,
         out,
         at,
         basics::number(answer),
@@ -43,15 +52,15 @@ pub fn worked(
         d.erased,
         plan,
         log,
-    );
-    let b = changes::changes(out, a, before, image);
-    output::byte(out, b, b'\n')
+    )?;
+    let b = changes::changes(rt, out, a, before, image)?;
+    output::byte(rt, out, b, b'\n')
 }
 
 // The line `open`: the image is opened anew, and its log becomes the board's.
-fn open(image: &[u8], out: &mut [u8], at: usize, board: Board) -> Step
+fn open(rt: &impl Print, image: &[u8], out: &mut [u8], at: usize, board: Board) -> io::Result<Step>
     requires { (64 ≤ length out.old) × (at ≤ length out.old) }
-    ensures { (result.at ≤ length out.old) × (result.board.len ≡ board.len) }
+    ensures { IfOk result (λ s. (s.at ≤ length out.old) × (s.board.len ≡ board.len)) }
 {
     let o = scan::open(image);
     let answer = o.answer;
@@ -67,47 +76,54 @@ fn open(image: &[u8], out: &mut [u8], at: usize, board: Board) -> Step
         answer: answer,
         value: Given::Dash,
     };
-    Step {
+    Ok(Step {
         ok: true,
-        at: answered(out, at, r, new),
+        at: answered(rt, out, at, r, new)?,
         board: new,
-    }
+    })
 }
 
 // The listing of the image. It begins a buffer, so what stands there is written first.
-fn listing(image: &[u8], out: &mut [u8], at: usize) -> usize
+fn listing(rt: &impl Print, image: &[u8], out: &mut [u8], at: usize) -> io::Result<usize>
     requires { at ≤ length out.old }
-    ensures { result ≤ length out.old }
+    ensures { IfOk result (λ to. to ≤ length out.old) }
 {
-    output::flush(out, at);
-    list::list(image, out)
+    output::flush(rt, out, at)?;
+    Ok(list::list(image, out))
 }
 
 // A line that looks at the image, if it is one of these.
-pub fn look(line: &[u8], image: &[u8], out: &mut [u8], at: usize, board: Board) -> Step
+pub fn look(
+    rt: &impl Print,
+    line: &[u8],
+    image: &[u8],
+    out: &mut [u8],
+    at: usize,
+    board: Board,
+) -> io::Result<Step>
     requires { (64 ≤ length out.old) × (at ≤ length out.old) }
-    ensures { (result.at ≤ length out.old) × (result.board.len ≡ board.len) }
+    ensures { IfOk result (λ s. (s.at ≤ length out.old) × (s.board.len ≡ board.len)) }
 {
     if script::is_same(line, b"open") {
-        return open(image, out, at, board);
+        return open(rt, image, out, at, board);
     }
     if script::is_same(line, b"dump") {
-        return Step {
+        return Ok(Step {
             ok: true,
-            at: changes::dump(out, at, image),
+            at: changes::dump(rt, out, at, image)?,
             board: board,
-        };
+        });
     }
     if script::is_same(line, b"list") {
-        return Step {
+        return Ok(Step {
             ok: true,
-            at: listing(image, out, at),
+            at: listing(rt, image, out, at)?,
             board: board,
-        };
+        });
     }
-    Step {
+    Ok(Step {
         ok: false,
         at: at,
         board: board,
-    }
+    })
 }

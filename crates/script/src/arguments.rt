@@ -16,7 +16,7 @@ pub const MAX_32: u64 = 4294967295;
 pub const MAX_64: u64 = 18446744073709551615;
 
 // Up to four numbers, and the place behind them.
-#[derive(Drop)]
+#[derive(Clone, Copy)]
 pub struct Numbers {
     pub ok: bool,
     pub next: usize,
@@ -72,7 +72,7 @@ pub fn all_numbers(line: &[u8], at: usize, most: [u64; 4], count: usize) -> Numb
 }
 
 // The bytes of a slot, if they were there.
-#[derive(Drop)]
+#[derive(Clone, Copy)]
 pub struct SlotRead {
     pub ok: bool,
     pub bytes: [u8; SLOT],

@@ -5,7 +5,7 @@ use flash::Plan;
 use records::Log;
 
 // What the calls work on beside the image's bytes.
-#[derive(Drop)]
+#[derive(Clone, Copy)]
 pub struct Board {
     pub len: usize,
     pub plan: Plan,
@@ -13,7 +13,7 @@ pub struct Board {
 }
 
 // What a call hands back beside its answer: nothing at all, no value, or numbers.
-#[derive(Drop)]
+#[derive(Clone, Copy)]
 pub enum Given {
     Dash,
     Absent,
@@ -22,7 +22,7 @@ pub enum Given {
 }
 
 // What a call that only reads answered.
-#[derive(Drop)]
+#[derive(Clone, Copy)]
 pub struct Reply {
     pub ok: bool,
     pub answer: Answer,
@@ -30,7 +30,7 @@ pub struct Reply {
 }
 
 // What a line made of the board, and where the text in the buffer ends.
-#[derive(Drop)]
+#[derive(Clone, Copy)]
 pub struct Step {
     pub ok: bool,
     pub at: usize,

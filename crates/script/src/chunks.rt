@@ -1,8 +1,9 @@
 // The input in chunks: one read more, where a line of it ends, and the rest that waits for the next.
-ghost use Rattle.std.specs.Prelude.{◌≤◌, length};
+ghost use Rattle.std.specs.Prelude.{◌≤◌, length, IfOk};
 
 use crate::words;
-use libc::STDIN_FILENO;
+use std::io;
+use std::io::Read;
 
 // Where the first `stop` stands from `from` on, or the text's end.
 pub fn until(text: &[u8], from: usize, stop: u8) -> usize
@@ -41,10 +42,10 @@ pub fn keep(input: &mut [u8], from: usize, to: usize) -> usize
 }
 
 // One read behind the first `have` bytes; answers how many there are then.
-pub fn more(input: &mut [u8], have: usize) -> usize
+pub fn more<R: Read>(reader: &mut R, input: &mut [u8], have: usize) -> io::Result<usize>
     requires { have ≤ length input.old }
-    ensures { (have ≤ result) × (result ≤ length input.old) }
+    ensures { IfOk result (λ n. (have ≤ n) × (n ≤ length input.old)) }
 {
-    let got = libc::read(STDIN_FILENO, &mut input[have..]);
-    have + io::count(got, &input[have..])
+    let got = reader.read(&mut input[have..])?;
+    Ok(have + got)
 }

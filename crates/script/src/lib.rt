@@ -1,5 +1,6 @@
 // A script of calls, line by line: its words and numbers, the lines that set something, the input in chunks.
 // The format: docs/REPLAY.md. A place in a line is any number: what is not there is refused.
+#![tactic(auto)]
 
 mod words; // where a word ends, whether two texts are the same, a word that is expected
 mod decimals; // a number in decimal, within a limit
@@ -19,28 +20,28 @@ pub use settings::{Change, setting};
 pub use words::is_same;
 
 // The place behind a word that was expected.
-#[derive(Drop)]
+#[derive(Clone, Copy)]
 enum Past {
     At(usize),
     Refused,
 }
 
 // A number, if there is one.
-#[derive(Drop)]
+#[derive(Clone, Copy)]
 enum Value {
     Is(u64),
     Refused,
 }
 
 // A number, and the place behind it.
-#[derive(Drop)]
+#[derive(Clone, Copy)]
 enum Taken {
     Number { value: u64, next: usize },
     Refused,
 }
 
 // A byte, if there is one.
-#[derive(Drop)]
+#[derive(Clone, Copy)]
 enum Byte {
     Is(u8),
     Refused,

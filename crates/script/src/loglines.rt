@@ -9,14 +9,14 @@ use codec::Raw;
 use records::{LIMIT, Log, State};
 
 // A log that was read.
-#[derive(Drop)]
+#[derive(Clone, Copy)]
 pub struct LogRead {
     pub ok: bool,
     pub log: Log,
 }
 
 // A state that was read, and the place behind it.
-#[derive(Drop)]
+#[derive(Clone, Copy)]
 struct StateRead {
     ok: bool,
     next: usize,
@@ -24,14 +24,14 @@ struct StateRead {
 }
 
 // A table that was read.
-#[derive(Drop)]
+#[derive(Clone, Copy)]
 struct TableRead {
     ok: bool,
     table: [Raw; LIMIT],
 }
 
 // A record that was read, and the place behind it.
-#[derive(Drop)]
+#[derive(Clone, Copy)]
 struct RecordRead {
     ok: bool,
     next: usize,

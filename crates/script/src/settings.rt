@@ -9,14 +9,14 @@ use flash::{LARGEST, Plan};
 use records::Log;
 
 // The board behind such a line.
-#[derive(Drop)]
+#[derive(Clone, Copy)]
 pub struct Change {
     pub ok: bool,
     pub board: Board,
 }
 
 // A plan that was read.
-#[derive(Drop)]
+#[derive(Clone, Copy)]
 struct PlanRead {
     ok: bool,
     plan: Plan,
