@@ -34,7 +34,8 @@ use Rattle.reads.specs.declared.Number.{Number}
 use Rattle.reads.specs.declared.Number.TheVariants as number
 use Rattle.reads.specs.declared.Anchored.TheVariants as anchored
 use Rattle.reads.proofs.EnteringLaws.{answer_no_image, answer_bad_log, answer_bad_id, answer-done, turned-away, taken_in}
-use Rattle.reads.specs.Reads.{counter_by, get_of, number_by, value_of, anchor_by, anchor_of, told_of, told_refused, lamport_by, migration_by, needs_migration_of}
+use Rattle.reads.specs.Reads.{counter_by, get_of, number_by, value_of, anchor_by}
+use Rattle.reads.specs.Reads.{anchor_of, told_of, told_refused, lamport_by, migration_by, needs_migration_of}
 use Rattle.reads.specs.Reads.{counter_says, number_says, anchored_says}
 use Rattle.decisions.specs.Outcomes.{Outcome, flash_of, refused, entered}
 use Rattle.ids.specs.declared.Anchor.{Anchor}

@@ -27,7 +27,8 @@ returns-then-out-lt-LONGEST c =
 pub returns-then-not-is_done : goal.returns-then-not-is_done
 returns-then-not-is_done c =
     let listed : List ℕ = listing_in (length c.args.out.now) c.args.image.now in
-    let holds : (text : List ℕ) → (after : List ℕ) → (r : ℕ) → listed ≡ text → Puts c.args.out.now 0 text after r → Puts c.args.out.now 0 listed after r = λ text after r e p. subst (λ (t : List ℕ). Puts c.args.out.now 0 t after r) (sym e) p in
+    let holds : (text : List ℕ) → (after : List ℕ) → (r : ℕ) → listed ≡ text → Puts c.args.out.now 0 text after r
+    → Puts c.args.out.now 0 listed after r = λ text after r e p. subst (λ (t : List ℕ). Puts c.args.out.now 0 t after r) (sym e) p in
     let refused = sym c.is_done.ensures ∙ not-true c.is_done.result c.if-not-is_done.true-raw in
     holds bad_image c.put_bytes.new.out c.put_bytes.result
     (no_image (length c.args.out.now) c.args.image.now c.open-o.result c.if-out-lt-LONGEST.false c.open-o.ensures refused)
@@ -58,14 +59,20 @@ put_records-requires c =
     let room : let o = c in 0 + length (state_listing o.open-o.result.log active) ≤ length o.args.out.now = let o = c in
     let log = o.open-o.result.log in
     omega (arith, o.if-out-lt-LONGEST.false, subst (λ (s : State). length (state_listing log s) ≤ longest) c.in-Active.is fits.short) in
-    let stands : let s = c in let o = s in Begun o.args.out.now 0 (state_listing o.open-o.result.log active) (record_lines (records_of o.open-o.result.log)) c.put_active-n.new.out c.put_active-n.result = let s = c in next room (begun room) c.put_active-n.ensures in
+    let stands : let s = c in let o =
+    s in Begun o.args.out.now 0 (state_listing o.open-o.result.log active) (record_lines (records_of o.open-o.result.log)) c.put_active-n.new.out
+    c.put_active-n.result = let s = c in next room (begun room) c.put_active-n.ensures in
     (fits.few, room-left room stands)
 
 pub returns-in-Unformatted : goal.returns-in-Unformatted
 returns-in-Unformatted c =
     let listed : List ℕ = listing_in (length c.args.out.now) c.args.image.now in
-    let holds : (text : List ℕ) → (after : List ℕ) → (r : ℕ) → listed ≡ text → Puts c.args.out.now 0 text after r → Puts c.args.out.now 0 listed after r = λ text after r e p. subst (λ (t : List ℕ). Puts c.args.out.now 0 t after r) (sym e) p in
-    let state_says : (state : State) → let o = c in o.open-o.result.log.state ≡ state → listed ≡ state_listing o.open-o.result.log state = λ state e. in_state (length c.args.out.now) c.args.image.now c.open-o.result c.if-out-lt-LONGEST.false c.open-o.ensures
+    let holds : (text : List ℕ) → (after : List ℕ) → (r : ℕ) → listed ≡ text → Puts c.args.out.now 0 text after r
+    → Puts c.args.out.now 0 listed after r = λ text after r e p. subst (λ (t : List ℕ). Puts c.args.out.now 0 t after r) (sym e) p in
+    let state_says : (state : State) → let o =
+    c in o.open-o.result.log.state ≡ state → listed
+    ≡ state_listing o.open-o.result.log state = λ state e. in_state (length c.args.out.now) c.args.image.now c.open-o.result c.if-out-lt-LONGEST.false
+    c.open-o.ensures
     (sym c.is_done.ensures ∙ not-false c.is_done.result c.if-not-is_done.false-raw) state e in
     holds _ c.put_bytes-in-Unformatted.new.out c.put_bytes-in-Unformatted.result
     (state_says Unformatted c.in-Unformatted.is) c.put_bytes-in-Unformatted.ensures
@@ -73,8 +80,12 @@ returns-in-Unformatted c =
 pub returns-in-Failed : goal.returns-in-Failed
 returns-in-Failed c =
     let listed : List ℕ = listing_in (length c.args.out.now) c.args.image.now in
-    let holds : (text : List ℕ) → (after : List ℕ) → (r : ℕ) → listed ≡ text → Puts c.args.out.now 0 text after r → Puts c.args.out.now 0 listed after r = λ text after r e p. subst (λ (t : List ℕ). Puts c.args.out.now 0 t after r) (sym e) p in
-    let state_says : (state : State) → let o = c in o.open-o.result.log.state ≡ state → listed ≡ state_listing o.open-o.result.log state = λ state e. in_state (length c.args.out.now) c.args.image.now c.open-o.result c.if-out-lt-LONGEST.false c.open-o.ensures
+    let holds : (text : List ℕ) → (after : List ℕ) → (r : ℕ) → listed ≡ text → Puts c.args.out.now 0 text after r
+    → Puts c.args.out.now 0 listed after r = λ text after r e p. subst (λ (t : List ℕ). Puts c.args.out.now 0 t after r) (sym e) p in
+    let state_says : (state : State) → let o =
+    c in o.open-o.result.log.state ≡ state → listed
+    ≡ state_listing o.open-o.result.log state = λ state e. in_state (length c.args.out.now) c.args.image.now c.open-o.result c.if-out-lt-LONGEST.false
+    c.open-o.ensures
     (sym c.is_done.ensures ∙ not-false c.is_done.result c.if-not-is_done.false-raw) state e in
     holds _ c.put_bytes-in-Failed.new.out c.put_bytes-in-Failed.result
     (state_says Failed c.in-Failed.is) c.put_bytes-in-Failed.ensures
@@ -82,17 +93,21 @@ returns-in-Failed c =
 pub returns-in-Active : goal.returns-in-Active
 returns-in-Active c =
     let listed : List ℕ = listing_in (length c.args.out.now) c.args.image.now in
-    let holds : (text : List ℕ) → (after : List ℕ) → (r : ℕ) → listed ≡ text → Puts c.args.out.now 0 text after r → Puts c.args.out.now 0 listed after r = λ text after r e p. subst (λ (t : List ℕ). Puts c.args.out.now 0 t after r) (sym e) p in
+    let holds : (text : List ℕ) → (after : List ℕ) → (r : ℕ) → listed ≡ text → Puts c.args.out.now 0 text after r
+    → Puts c.args.out.now 0 listed after r = λ text after r e p. subst (λ (t : List ℕ). Puts c.args.out.now 0 t after r) (sym e) p in
     let fits : Fits c.open-o.result.log = let image = c.args.image.now in
     let bytes : T (are_bytes image) = bytes-all image (λ i. omega (arith, c.type_inv.image i)) in
     subst (λ (o : Opened). Fits o.log) (sym c.open-o.ensures) (opened-fits image bytes) in
-    let state_says : (state : State) → let o = c in o.open-o.result.log.state ≡ state → listed ≡ state_listing o.open-o.result.log state = λ state e. let o = c in
+    let state_says : (state : State) → let o =
+    c in o.open-o.result.log.state ≡ state → listed ≡ state_listing o.open-o.result.log state = λ state e. let o = c in
     in_state (length o.args.out.now) o.args.image.now o.open-o.result o.if-out-lt-LONGEST.false o.open-o.ensures
     (sym c.is_done.ensures ∙ not-false c.is_done.result c.if-not-is_done.false-raw) state e in
     let active : State = Active c.in-Active.sector c.in-Active.seq c.in-Active.head in
     let room : let o = c in 0 + length (state_listing o.open-o.result.log active) ≤ length o.args.out.now = let o = c in
     let log = o.open-o.result.log in
     omega (arith, o.if-out-lt-LONGEST.false, subst (λ (s : State). length (state_listing log s) ≤ longest) c.in-Active.is fits.short) in
-    let stands : let s = c in let o = s in Begun o.args.out.now 0 (state_listing o.open-o.result.log active) (record_lines (records_of o.open-o.result.log)) c.put_active-n.new.out c.put_active-n.result = let s = c in next room (begun room) c.put_active-n.ensures in
+    let stands : let s = c in let o =
+    s in Begun o.args.out.now 0 (state_listing o.open-o.result.log active) (record_lines (records_of o.open-o.result.log)) c.put_active-n.new.out
+    c.put_active-n.result = let s = c in next room (begun room) c.put_active-n.ensures in
     holds _ c.put_records.new.out c.put_records.result
     (state_says active c.in-Active.is) (last room stands c.put_records.ensures)

@@ -13,10 +13,14 @@ put_decimal-end-requires c =
 
 pub put_byte-requires : goal.put_byte-requires
 put_byte-requires c =
-    let digits-stand : let a = c.args in Begun a.out.now a.at (number a.x a.behind) (a.behind ∷ []) c.put_decimal-end.new.out c.put_decimal-end.result = next c.requires (begun c.requires) c.put_decimal-end.ensures in
+    let digits-stand : let a =
+    c.args in Begun a.out.now a.at (number a.x a.behind) (a.behind ∷ []) c.put_decimal-end.new.out c.put_decimal-end.result = next c.requires
+    (begun c.requires) c.put_decimal-end.ensures in
     omega (arith, room-left c.requires digits-stand)
 
 pub returns : goal.returns
 returns c =
-    let digits-stand : let a = c.args in Begun a.out.now a.at (number a.x a.behind) (a.behind ∷ []) c.put_decimal-end.new.out c.put_decimal-end.result = next c.requires (begun c.requires) c.put_decimal-end.ensures in
+    let digits-stand : let a =
+    c.args in Begun a.out.now a.at (number a.x a.behind) (a.behind ∷ []) c.put_decimal-end.new.out c.put_decimal-end.result = next c.requires
+    (begun c.requires) c.put_decimal-end.ensures in
     last c.requires digits-stand c.put_byte.ensures

@@ -19,8 +19,12 @@ pub put_small-to-requires : goal.put_small-to-requires
 unfolding line
 put_small-to-requires c =
     let body-long : length c.args.r.body ≡ 10 = ten c.args.r c.well_formed.1.1.0 in
-    let tag-stands : let s = c in Begun s.args.out.now s.args.at (record_line s.args.r) (line s.args.r.id s.args.r.body) c.put_small-a.new.out c.put_small-a.result = let s = c in next s.requires (begun s.requires) c.put_small-a.ensures in
-    let id_next : let s = c in Begun s.args.out.now s.args.at (record_line s.args.r) (number s.args.r.id 32 ++ line_from s.args.r.body 0) c.put_small-a.new.out c.put_small-a.result = let s = c in
+    let tag-stands : let s =
+    c in Begun s.args.out.now s.args.at (record_line s.args.r) (line s.args.r.id s.args.r.body) c.put_small-a.new.out c.put_small-a.result = let s = c
+    in next s.requires (begun s.requires) c.put_small-a.ensures in
+    let id_next : let s =
+    c in Begun s.args.out.now s.args.at (record_line s.args.r) (number s.args.r.id 32 ++ line_from s.args.r.body 0) c.put_small-a.new.out
+    c.put_small-a.result = let s = c in
     subst (λ (l : List ℕ). Begun s.args.out.now s.args.at (record_line s.args.r) l c.put_small-a.new.out c.put_small-a.result)
     (line-all s.args.r.body s.args.r.id (omega (arith, body-long)))
     tag-stands in
@@ -30,12 +34,17 @@ pub loop-i-init : goal.loop-i-init
 unfolding line
 loop-i-init c =
     let body-long : length c.args.r.body ≡ 10 = ten c.args.r c.well_formed.1.1.0 in
-    let tag-stands : let s = c in Begun s.args.out.now s.args.at (record_line s.args.r) (line s.args.r.id s.args.r.body) c.put_small-a.new.out c.put_small-a.result = let s = c in next s.requires (begun s.requires) c.put_small-a.ensures in
-    let id_next : let s = c in Begun s.args.out.now s.args.at (record_line s.args.r) (number s.args.r.id 32 ++ line_from s.args.r.body 0) c.put_small-a.new.out c.put_small-a.result = let s = c in
+    let tag-stands : let s =
+    c in Begun s.args.out.now s.args.at (record_line s.args.r) (line s.args.r.id s.args.r.body) c.put_small-a.new.out c.put_small-a.result = let s = c
+    in next s.requires (begun s.requires) c.put_small-a.ensures in
+    let id_next : let s =
+    c in Begun s.args.out.now s.args.at (record_line s.args.r) (number s.args.r.id 32 ++ line_from s.args.r.body 0) c.put_small-a.new.out
+    c.put_small-a.result = let s = c in
     subst (λ (l : List ℕ). Begun s.args.out.now s.args.at (record_line s.args.r) l c.put_small-a.new.out c.put_small-a.result)
     (line-all s.args.r.body s.args.r.id (omega (arith, body-long)))
     tag-stands in
-    let id-stands : Begun c.args.out.now c.args.at (record_line c.args.r) (line_from c.args.r.body 0) c.put_small-to.new.out c.put_small-to.result = next c.requires id_next c.put_small-to.ensures in
+    let id-stands : Begun c.args.out.now c.args.at (record_line c.args.r) (line_from c.args.r.body 0) c.put_small-to.new.out c.put_small-to.result =
+    next c.requires id_next c.put_small-to.ensures in
     let room : c.put_small-to.result + length (line_from c.args.r.body 0) ≤ length c.put_small-to.new.out = room-left c.requires id-stands in
     (omega arith, begun room)
 
@@ -43,12 +52,18 @@ pub put_small-to-requires-in-loop-i : goal.put_small-to-requires-in-loop-i
 unfolding line
 put_small-to-requires-in-loop-i c =
     let body-long : length c.args.r.body ≡ 10 = ten c.args.r c.well_formed.1.1.0 in
-    let tag-stands : let s = c in Begun s.args.out.now s.args.at (record_line s.args.r) (line s.args.r.id s.args.r.body) c.put_small-a.new.out c.put_small-a.result = let s = c in next s.requires (begun s.requires) c.put_small-a.ensures in
-    let id_next : let s = c in Begun s.args.out.now s.args.at (record_line s.args.r) (number s.args.r.id 32 ++ line_from s.args.r.body 0) c.put_small-a.new.out c.put_small-a.result = let s = c in
+    let tag-stands : let s =
+    c in Begun s.args.out.now s.args.at (record_line s.args.r) (line s.args.r.id s.args.r.body) c.put_small-a.new.out c.put_small-a.result = let s = c
+    in next s.requires (begun s.requires) c.put_small-a.ensures in
+    let id_next : let s =
+    c in Begun s.args.out.now s.args.at (record_line s.args.r) (number s.args.r.id 32 ++ line_from s.args.r.body 0) c.put_small-a.new.out
+    c.put_small-a.result = let s = c in
     subst (λ (l : List ℕ). Begun s.args.out.now s.args.at (record_line s.args.r) l c.put_small-a.new.out c.put_small-a.result)
     (line-all s.args.r.body s.args.r.id (omega (arith, body-long)))
     tag-stands in
-    let id-stands : let s = c in Begun s.args.out.now s.args.at (record_line s.args.r) (line_from s.args.r.body 0) c.put_small-to.new.out c.put_small-to.result = next c.requires id_next c.put_small-to.ensures in
+    let id-stands : let s =
+    c in Begun s.args.out.now s.args.at (record_line s.args.r) (line_from s.args.r.body 0) c.put_small-to.new.out c.put_small-to.result = next
+    c.requires id_next c.put_small-to.ensures in
     let room : c.put_small-to.result + length (line_from c.args.r.body 0) ≤ length c.put_small-to.new.out = room-left c.requires id-stands in
     let Left : List ℕ → Type 0 = λ rest. Begun c.put_small-to.new.out c.put_small-to.result (line_from c.args.r.body 0) rest c.loop-i.out c.loop-i.to in
     let more : let l = c in let body = l.args.r.body in Left (number (get_or body l.loop-i.i 0) 32 ++ line_from body (l.loop-i.i + 1)) = let l = c in
@@ -61,12 +76,18 @@ pub loop-i-preserved : goal.loop-i-preserved
 unfolding line
 loop-i-preserved c =
     let body-long : length c.args.r.body ≡ 10 = ten c.args.r c.well_formed.1.1.0 in
-    let tag-stands : let s = c in Begun s.args.out.now s.args.at (record_line s.args.r) (line s.args.r.id s.args.r.body) c.put_small-a.new.out c.put_small-a.result = let s = c in next s.requires (begun s.requires) c.put_small-a.ensures in
-    let id_next : let s = c in Begun s.args.out.now s.args.at (record_line s.args.r) (number s.args.r.id 32 ++ line_from s.args.r.body 0) c.put_small-a.new.out c.put_small-a.result = let s = c in
+    let tag-stands : let s =
+    c in Begun s.args.out.now s.args.at (record_line s.args.r) (line s.args.r.id s.args.r.body) c.put_small-a.new.out c.put_small-a.result = let s = c
+    in next s.requires (begun s.requires) c.put_small-a.ensures in
+    let id_next : let s =
+    c in Begun s.args.out.now s.args.at (record_line s.args.r) (number s.args.r.id 32 ++ line_from s.args.r.body 0) c.put_small-a.new.out
+    c.put_small-a.result = let s = c in
     subst (λ (l : List ℕ). Begun s.args.out.now s.args.at (record_line s.args.r) l c.put_small-a.new.out c.put_small-a.result)
     (line-all s.args.r.body s.args.r.id (omega (arith, body-long)))
     tag-stands in
-    let id-stands : let s = c in Begun s.args.out.now s.args.at (record_line s.args.r) (line_from s.args.r.body 0) c.put_small-to.new.out c.put_small-to.result = next c.requires id_next c.put_small-to.ensures in
+    let id-stands : let s =
+    c in Begun s.args.out.now s.args.at (record_line s.args.r) (line_from s.args.r.body 0) c.put_small-to.new.out c.put_small-to.result = next
+    c.requires id_next c.put_small-to.ensures in
     let room : c.put_small-to.result + length (line_from c.args.r.body 0) ≤ length c.put_small-to.new.out = room-left c.requires id-stands in
     let Left : List ℕ → Type 0 = λ rest. Begun c.put_small-to.new.out c.put_small-to.result (line_from c.args.r.body 0) rest c.loop-i.out c.loop-i.to in
     let more : let l = c in let body = l.args.r.body in Left (number (get_or body l.loop-i.i 0) 32 ++ line_from body (l.loop-i.i + 1)) = let s = c in
@@ -77,12 +98,18 @@ pub put_small-requires : goal.put_small-requires
 unfolding line
 put_small-requires c =
     let body-long : length c.args.r.body ≡ 10 = ten c.args.r c.well_formed.1.1.0 in
-    let tag-stands : let s = c in Begun s.args.out.now s.args.at (record_line s.args.r) (line s.args.r.id s.args.r.body) c.put_small-a.new.out c.put_small-a.result = let s = c in next s.requires (begun s.requires) c.put_small-a.ensures in
-    let id_next : let s = c in Begun s.args.out.now s.args.at (record_line s.args.r) (number s.args.r.id 32 ++ line_from s.args.r.body 0) c.put_small-a.new.out c.put_small-a.result = let s = c in
+    let tag-stands : let s =
+    c in Begun s.args.out.now s.args.at (record_line s.args.r) (line s.args.r.id s.args.r.body) c.put_small-a.new.out c.put_small-a.result = let s = c
+    in next s.requires (begun s.requires) c.put_small-a.ensures in
+    let id_next : let s =
+    c in Begun s.args.out.now s.args.at (record_line s.args.r) (number s.args.r.id 32 ++ line_from s.args.r.body 0) c.put_small-a.new.out
+    c.put_small-a.result = let s = c in
     subst (λ (l : List ℕ). Begun s.args.out.now s.args.at (record_line s.args.r) l c.put_small-a.new.out c.put_small-a.result)
     (line-all s.args.r.body s.args.r.id (omega (arith, body-long)))
     tag-stands in
-    let id-stands : let s = c in Begun s.args.out.now s.args.at (record_line s.args.r) (line_from s.args.r.body 0) c.put_small-to.new.out c.put_small-to.result = next c.requires id_next c.put_small-to.ensures in
+    let id-stands : let s =
+    c in Begun s.args.out.now s.args.at (record_line s.args.r) (line_from s.args.r.body 0) c.put_small-to.new.out c.put_small-to.result = next
+    c.requires id_next c.put_small-to.ensures in
     let room : c.put_small-to.result + length (line_from c.args.r.body 0) ≤ length c.put_small-to.new.out = room-left c.requires id-stands in
     let Left : List ℕ → Type 0 = λ rest. Begun c.put_small-to.new.out c.put_small-to.result (line_from c.args.r.body 0) rest c.loop-i.out c.loop-i.to in
     let done : let l = c in Left (number (get_or l.args.r.body 9 0) 10) = let s = c in
@@ -94,12 +121,17 @@ pub shape_of-out : goal.shape_of-out
 unfolding line
 shape_of-out c =
     let body-long : length c.args.r.body ≡ 10 = ten c.args.r c.well_formed.1.1.0 in
-    let tag-stands : let s = c in Begun s.args.out.now s.args.at (record_line s.args.r) (line s.args.r.id s.args.r.body) c.put_small-a.new.out c.put_small-a.result = let s = c in next s.requires (begun s.requires) c.put_small-a.ensures in
-    let id_next : let s = c in Begun s.args.out.now s.args.at (record_line s.args.r) (number s.args.r.id 32 ++ line_from s.args.r.body 0) c.put_small-a.new.out c.put_small-a.result = let s = c in
+    let tag-stands : let s =
+    c in Begun s.args.out.now s.args.at (record_line s.args.r) (line s.args.r.id s.args.r.body) c.put_small-a.new.out c.put_small-a.result = let s = c
+    in next s.requires (begun s.requires) c.put_small-a.ensures in
+    let id_next : let s =
+    c in Begun s.args.out.now s.args.at (record_line s.args.r) (number s.args.r.id 32 ++ line_from s.args.r.body 0) c.put_small-a.new.out
+    c.put_small-a.result = let s = c in
     subst (λ (l : List ℕ). Begun s.args.out.now s.args.at (record_line s.args.r) l c.put_small-a.new.out c.put_small-a.result)
     (line-all s.args.r.body s.args.r.id (omega (arith, body-long)))
     tag-stands in
-    let id-stands : Begun c.args.out.now c.args.at (record_line c.args.r) (line_from c.args.r.body 0) c.put_small-to.new.out c.put_small-to.result = next c.requires id_next c.put_small-to.ensures in
+    let id-stands : Begun c.args.out.now c.args.at (record_line c.args.r) (line_from c.args.r.body 0) c.put_small-to.new.out c.put_small-to.result =
+    next c.requires id_next c.put_small-to.ensures in
     let room : c.put_small-to.result + length (line_from c.args.r.body 0) ≤ length c.put_small-to.new.out = room-left c.requires id-stands in
     c.put_small.auto.out ∙ same-room room c.loop-i.invariant.1 ∙ same-room c.requires id-stands
 
@@ -107,12 +139,18 @@ pub returns : goal.returns
 unfolding line
 returns c =
     let body-long : length c.args.r.body ≡ 10 = ten c.args.r c.well_formed.1.1.0 in
-    let tag-stands : let s = c in Begun s.args.out.now s.args.at (record_line s.args.r) (line s.args.r.id s.args.r.body) c.put_small-a.new.out c.put_small-a.result = let s = c in next s.requires (begun s.requires) c.put_small-a.ensures in
-    let id_next : let s = c in Begun s.args.out.now s.args.at (record_line s.args.r) (number s.args.r.id 32 ++ line_from s.args.r.body 0) c.put_small-a.new.out c.put_small-a.result = let s = c in
+    let tag-stands : let s =
+    c in Begun s.args.out.now s.args.at (record_line s.args.r) (line s.args.r.id s.args.r.body) c.put_small-a.new.out c.put_small-a.result = let s = c
+    in next s.requires (begun s.requires) c.put_small-a.ensures in
+    let id_next : let s =
+    c in Begun s.args.out.now s.args.at (record_line s.args.r) (number s.args.r.id 32 ++ line_from s.args.r.body 0) c.put_small-a.new.out
+    c.put_small-a.result = let s = c in
     subst (λ (l : List ℕ). Begun s.args.out.now s.args.at (record_line s.args.r) l c.put_small-a.new.out c.put_small-a.result)
     (line-all s.args.r.body s.args.r.id (omega (arith, body-long)))
     tag-stands in
-    let id-stands : let s = c in Begun s.args.out.now s.args.at (record_line s.args.r) (line_from s.args.r.body 0) c.put_small-to.new.out c.put_small-to.result = next c.requires id_next c.put_small-to.ensures in
+    let id-stands : let s =
+    c in Begun s.args.out.now s.args.at (record_line s.args.r) (line_from s.args.r.body 0) c.put_small-to.new.out c.put_small-to.result = next
+    c.requires id_next c.put_small-to.ensures in
     let room : c.put_small-to.result + length (line_from c.args.r.body 0) ≤ length c.put_small-to.new.out = room-left c.requires id-stands in
     let Left : List ℕ → Type 0 = λ rest. let e = c in
     Begun e.put_small-to.new.out e.put_small-to.result (line_from e.args.r.body 0) rest c.loop-i.out c.loop-i.to in

@@ -23,9 +23,11 @@ bounds-table-i c = omega (arith, c.requires.0)
 
 pub put_record-to-requires : goal.put_record-to-requires
 put_record-to-requires c =
-    let few : length (take c.args.count c.args.table) ≡ c.args.count = length-take-le c.args.count c.args.table (omega (arith, c.requires.0, c.well_formed.1.1.0.1.0.1)) in
+    let few : length (take c.args.count c.args.table) ≡ c.args.count =
+    length-take-le c.args.count c.args.table (omega (arith, c.requires.0, c.well_formed.1.1.0.1.0.1)) in
     let Left : List ℕ → Type 0 = λ rest. let a = c.args in Begun a.out.now a.at (record_lines (take a.count a.table)) rest c.loop-i.out c.loop-i.to in
-    let more : let l = c in let a = l.args in Left (record_line (get_or a.table l.loop-i.i nowhere) ++ record_lines (drop (l.loop-i.i + 1) (take a.count a.table))) = let l = c in
+    let more : let l = c in let a =
+    l.args in Left (record_line (get_or a.table l.loop-i.i nowhere) ++ record_lines (drop (l.loop-i.i + 1) (take a.count a.table))) = let l = c in
     let a = l.args in
     let rs = take a.count a.table in
     subst Left
@@ -41,9 +43,12 @@ overflow_add-i c = omega (arith, c.requires.0)
 
 pub loop-i-preserved : goal.loop-i-preserved
 loop-i-preserved c =
-    let few : length (take c.args.count c.args.table) ≡ c.args.count = length-take-le c.args.count c.args.table (omega (arith, c.requires.0, c.well_formed.1.1.0.1.0.1)) in
+    let few : length (take c.args.count c.args.table) ≡ c.args.count =
+    length-take-le c.args.count c.args.table (omega (arith, c.requires.0, c.well_formed.1.1.0.1.0.1)) in
     let Left : List ℕ → Type 0 = λ rest. let a = c.args in Begun a.out.now a.at (record_lines (take a.count a.table)) rest c.loop-i.out c.loop-i.to in
-    let more : let l = c in let a = l.args in Left (record_line (get_or a.table l.loop-i.i nowhere) ++ record_lines (drop (l.loop-i.i + 1) (take a.count a.table))) = let a = c.args in
+    let more : let l = c in let a =
+    l.args in Left (record_line (get_or a.table l.loop-i.i nowhere) ++ record_lines (drop (l.loop-i.i + 1) (take a.count a.table))) = let a = c.args
+    in
     let rs = take a.count a.table in
     subst Left
     (lines_step rs c.loop-i.i nowhere (omega (arith, few))
@@ -56,7 +61,8 @@ shape_of-out c = same-room c.requires.1 c.loop-i.invariant.1
 
 pub returns : goal.returns
 returns c =
-    let few : length (take c.args.count c.args.table) ≡ c.args.count = length-take-le c.args.count c.args.table (omega (arith, c.requires.0, c.well_formed.1.1.0.1.0.1)) in
+    let few : length (take c.args.count c.args.table) ≡ c.args.count =
+    length-take-le c.args.count c.args.table (omega (arith, c.requires.0, c.well_formed.1.1.0.1.0.1)) in
     let Left : List ℕ → Type 0 = λ rest. let a = c.args in Begun a.out.now a.at (record_lines (take a.count a.table)) rest c.loop-i.out c.loop-i.to in
     let a = c.args in
     ended c.requires.1 (subst Left (lines_end (take a.count a.table) c.loop-i.i (omega (arith, few))) c.loop-i.invariant.1)

@@ -11,7 +11,9 @@ use Rattle.tries.proofs.load.Goals as goal
 
 pub returns-then-number-ge4 : goal.returns-then-number-ge4
 returns-then-number-ge4 c =
-    let by : (x : TriesLeft) → c.remaining.result ≡ x → let a = c.args in load_by a.exists a.fresh x ≡ load_of a.log a.credential a.exists a.fresh = λ x e. let a = c.args in ap (load_by a.exists a.fresh) (sym e ∙ c.remaining.ensures.0) in
+    let by : (x : TriesLeft) → c.remaining.result ≡ x → let a =
+    c.args in load_by a.exists a.fresh x
+    ≡ load_of a.log a.credential a.exists a.fresh = λ x e. let a = c.args in ap (load_by a.exists a.fresh) (sym e ∙ c.remaining.ensures.0) in
     let a = c.in-Refused.answer in
     c.of.ensures
     ∙ sym
@@ -21,14 +23,18 @@ returns-then-number-ge4 c =
 
 pub returns-then-exists : goal.returns-then-exists
 returns-then-exists c =
-    let by : (x : TriesLeft) → c.remaining.result ≡ x → let a = c.args in load_by a.exists a.fresh x ≡ load_of a.log a.credential a.exists a.fresh = λ x e. let a = c.args in ap (load_by a.exists a.fresh) (sym e ∙ c.remaining.ensures.0) in
+    let by : (x : TriesLeft) → c.remaining.result ≡ x → let a =
+    c.args in load_by a.exists a.fresh x
+    ≡ load_of a.log a.credential a.exists a.fresh = λ x e. let a = c.args in ap (load_by a.exists a.fresh) (sym e ∙ c.remaining.ensures.0) in
     c.of-then-exists.ensures
     ∙ sym (ap (λ (b : Bool). told_of (pick b 0 c.args.fresh)) c.if-exists.true)
     ∙ by _ c.in-Nothing.is
 
 pub returns-else-number-ge4 : goal.returns-else-number-ge4
 returns-else-number-ge4 c =
-    let by : (x : TriesLeft) → c.remaining.result ≡ x → let a = c.args in load_by a.exists a.fresh x ≡ load_of a.log a.credential a.exists a.fresh = λ x e. let a = c.args in ap (load_by a.exists a.fresh) (sym e ∙ c.remaining.ensures.0) in
+    let by : (x : TriesLeft) → c.remaining.result ≡ x → let a =
+    c.args in load_by a.exists a.fresh x
+    ≡ load_of a.log a.credential a.exists a.fresh = λ x e. let a = c.args in ap (load_by a.exists a.fresh) (sym e ∙ c.remaining.ensures.0) in
     let a = c.in-Refused.answer in
     c.refused.ensures
     ∙ sym
@@ -38,12 +44,16 @@ returns-else-number-ge4 c =
 
 pub returns-else-exists : goal.returns-else-exists
 returns-else-exists c =
-    let by : (x : TriesLeft) → c.remaining.result ≡ x → let a = c.args in load_by a.exists a.fresh x ≡ load_of a.log a.credential a.exists a.fresh = λ x e. let a = c.args in ap (load_by a.exists a.fresh) (sym e ∙ c.remaining.ensures.0) in
+    let by : (x : TriesLeft) → c.remaining.result ≡ x → let a =
+    c.args in load_by a.exists a.fresh x
+    ≡ load_of a.log a.credential a.exists a.fresh = λ x e. let a = c.args in ap (load_by a.exists a.fresh) (sym e ∙ c.remaining.ensures.0) in
     c.of-in-Nothing.ensures
     ∙ sym (ap (λ (b : Bool). told_of (pick b 0 c.args.fresh)) c.if-exists.false)
     ∙ by _ c.in-Nothing.is
 
 pub returns-in-Tries : goal.returns-in-Tries
 returns-in-Tries c =
-    let by : (x : TriesLeft) → c.remaining.result ≡ x → let a = c.args in load_by a.exists a.fresh x ≡ load_of a.log a.credential a.exists a.fresh = λ x e. let a = c.args in ap (load_by a.exists a.fresh) (sym e ∙ c.remaining.ensures.0) in
+    let by : (x : TriesLeft) → c.remaining.result ≡ x → let a =
+    c.args in load_by a.exists a.fresh x
+    ≡ load_of a.log a.credential a.exists a.fresh = λ x e. let a = c.args in ap (load_by a.exists a.fresh) (sym e ∙ c.remaining.ensures.0) in
     c.of-in-Tries.ensures ∙ by _ c.in-Tries.is

@@ -24,7 +24,8 @@ returns-then-not-is_done c =
     let flash-of : Bool → Flash = λ cut. flash_with c.args.image.now c.args.used cut in
     let outcome : Bool → Outcome = λ cut. formatted [] c.args.sectors c.args.log (flash-of cut) in
     let shown : (cut : Bool) → ShowsDone (outcome cut) c.format_with-f.result c.format_with-f.new.image = λ cut. c.format_with-f.ensures cut in
-    let told : (cut : Bool) → (b : Bool) → is_done c.format_with-f.result.answer ≡ b → is_done (outcome cut).answer ≡ b = λ cut b e. sym (ap (λ (r : Done). is_done r.answer) (shown cut).answered) ∙ e in
+    let told : (cut : Bool) → (b : Bool) → is_done c.format_with-f.result.answer ≡ b → is_done (outcome cut).answer ≡ b =
+    λ cut b e. sym (ap (λ (r : Done). is_done r.answer) (shown cut).answered) ∙ e in
     λ cut.
     let a = c.args in
     rw
@@ -38,7 +39,8 @@ perform-requires c =
     let flash-of : Bool → Flash = λ cut. flash_with c.args.image.now c.args.used cut in
     let outcome : Bool → Outcome = λ cut. formatted [] c.args.sectors c.args.log (flash-of cut) in
     let shown : (cut : Bool) → ShowsDone (outcome cut) c.format_with-f.result c.format_with-f.new.image = λ cut. c.format_with-f.ensures cut in
-    let told : (cut : Bool) → (b : Bool) → is_done c.format_with-f.result.answer ≡ b → is_done (outcome cut).answer ≡ b = λ cut b e. sym (ap (λ (r : Done). is_done r.answer) (shown cut).answered) ∙ e in
+    let told : (cut : Bool) → (b : Bool) → is_done c.format_with-f.result.answer ≡ b → is_done (outcome cut).answer ≡ b =
+    λ cut b e. sym (ap (λ (r : Done). is_done r.answer) (shown cut).answered) ∙ e in
     let formed : is_done c.format_with-f.result.answer ≡ true = sym c.is_done.ensures ∙ not-false c.is_done.result c.if-not-is_done.false-raw in
     let fits : log_fits c.args.sectors c.format_with-f.result.log ≡ true =
     ap (λ (r : Done). log_fits c.args.sectors r.log) (shown true).answered
@@ -69,7 +71,8 @@ returns c =
     let flash-of : Bool → Flash = λ cut. flash_with c.args.image.now c.args.used cut in
     let outcome : Bool → Outcome = λ cut. formatted [] c.args.sectors c.args.log (flash-of cut) in
     let shown : (cut : Bool) → ShowsDone (outcome cut) c.format_with-f.result c.format_with-f.new.image = λ cut. c.format_with-f.ensures cut in
-    let told : (cut : Bool) → (b : Bool) → is_done c.format_with-f.result.answer ≡ b → is_done (outcome cut).answer ≡ b = λ cut b e. sym (ap (λ (r : Done). is_done r.answer) (shown cut).answered) ∙ e in
+    let told : (cut : Bool) → (b : Bool) → is_done c.format_with-f.result.answer ≡ b → is_done (outcome cut).answer ≡ b =
+    λ cut b e. sym (ap (λ (r : Done). is_done r.answer) (shown cut).answered) ∙ e in
     let formed : is_done c.format_with-f.result.answer ≡ true = sym c.is_done.ensures ∙ not-false c.is_done.result c.if-not-is_done.false-raw in
     let empty : (cut : Bool) → records_of (outcome cut).log ≡ [] =
     λ cut. format-empty c.args.sectors c.args.log (flash-of cut) c.requires.some (told cut true formed) in

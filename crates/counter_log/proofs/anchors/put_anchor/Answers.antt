@@ -25,8 +25,11 @@ use Rattle.counter_log.proofs.anchors.put_anchor.Goals as goal
 
 pub first_anchor-requires : goal.first_anchor-requires
 first_anchor-requires c =
-    let is-entry : let a = c.args in c.enter-e.result ≡ entry_of (sectors_in (length a.image.now)) a.log true anchor_tag 0 = let a = c.args in c.enter-e.ensures ∙ ap (λ (n : ℕ). entry_of n a.log true anchor_tag 0) c.sectors-n.ensures in
-    let opens : (b : Bool) → c.is_first.result ≡ b → let e = c in opens_log e.enter-e.result.answer e.args.log.state e.args.new ≡ b = λ b h. sym c.is_first.ensures ∙ h in
+    let is-entry : let a =
+    c.args in c.enter-e.result ≡ entry_of (sectors_in (length a.image.now)) a.log true anchor_tag 0 = let a = c.args in c.enter-e.ensures
+    ∙ ap (λ (n : ℕ). entry_of n a.log true anchor_tag 0) c.sectors-n.ensures in
+    let opens : (b : Bool) → c.is_first.result ≡ b → let e =
+    c in opens_log e.enter-e.result.answer e.args.log.state e.args.new ≡ b = λ b h. sym c.is_first.ensures ∙ h in
     let a = c.args in
     let n = sectors_in (length a.image.now) in
     let h = opened c.enter-e.result.answer a.log.state a.new (opens true c.if-is_first.true) in
@@ -43,8 +46,11 @@ first_anchor-requires c =
 
 pub returns-then-is_first : goal.returns-then-is_first
 returns-then-is_first c =
-    let is-entry : let a = c.args in c.enter-e.result ≡ entry_of (sectors_in (length a.image.now)) a.log true anchor_tag 0 = let a = c.args in c.enter-e.ensures ∙ ap (λ (n : ℕ). entry_of n a.log true anchor_tag 0) c.sectors-n.ensures in
-    let opens : (b : Bool) → c.is_first.result ≡ b → let e = c in opens_log e.enter-e.result.answer e.args.log.state e.args.new ≡ b = λ b h. sym c.is_first.ensures ∙ h in
+    let is-entry : let a =
+    c.args in c.enter-e.result ≡ entry_of (sectors_in (length a.image.now)) a.log true anchor_tag 0 = let a = c.args in c.enter-e.ensures
+    ∙ ap (λ (n : ℕ). entry_of n a.log true anchor_tag 0) c.sectors-n.ensures in
+    let opens : (b : Bool) → c.is_first.result ≡ b → let e =
+    c in opens_log e.enter-e.result.answer e.args.log.state e.args.new ≡ b = λ b h. sym c.is_first.ensures ∙ h in
     let a = c.args in
     let first : (n : ℕ) (used : Used) → Outcome =
     λ (n : ℕ) (used : Used). anchored_first a.new n (formatted [] n a.log (flash_with a.image.now used false)) in
@@ -55,7 +61,9 @@ returns-then-is_first c =
 
 pub perform-requires : goal.perform-requires
 perform-requires c =
-    let is-entry : let a = c.args in c.enter-e.result ≡ entry_of (sectors_in (length a.image.now)) a.log true anchor_tag 0 = let a = c.args in c.enter-e.ensures ∙ ap (λ (n : ℕ). entry_of n a.log true anchor_tag 0) c.sectors-n.ensures in
+    let is-entry : let a =
+    c.args in c.enter-e.result ≡ entry_of (sectors_in (length a.image.now)) a.log true anchor_tag 0 = let a = c.args in c.enter-e.ensures
+    ∙ ap (λ (n : ℕ). entry_of n a.log true anchor_tag 0) c.sectors-n.ensures in
     let a = c.args in
     let x = c.enter-e.result in
     call-ready a.image.now a.log a.plan true anchor_tag 0 x is-entry
@@ -66,8 +74,11 @@ perform-requires c =
 
 pub returns : goal.returns
 returns c =
-    let is-entry : let a = c.args in c.enter-e.result ≡ entry_of (sectors_in (length a.image.now)) a.log true anchor_tag 0 = let a = c.args in c.enter-e.ensures ∙ ap (λ (n : ℕ). entry_of n a.log true anchor_tag 0) c.sectors-n.ensures in
-    let opens : (b : Bool) → c.is_first.result ≡ b → let e = c in opens_log e.enter-e.result.answer e.args.log.state e.args.new ≡ b = λ b h. sym c.is_first.ensures ∙ h in
+    let is-entry : let a =
+    c.args in c.enter-e.result ≡ entry_of (sectors_in (length a.image.now)) a.log true anchor_tag 0 = let a = c.args in c.enter-e.ensures
+    ∙ ap (λ (n : ℕ). entry_of n a.log true anchor_tag 0) c.sectors-n.ensures in
+    let opens : (b : Bool) → c.is_first.result ≡ b → let e =
+    c in opens_log e.enter-e.result.answer e.args.log.state e.args.new ≡ b = λ b h. sym c.is_first.ensures ∙ h in
     let a = c.args in
     rw (as_call a.image.now a.log a.plan a.new c.enter-e.result is-entry (opens false c.if-is_first.false))
     (call_meets a.image.now a.log a.plan true anchor_tag 0 c.enter-e.result is-entry

@@ -33,7 +33,8 @@ pub returns-then-not-is_done : goal.returns-then-not-is_done
 unfolding format_of
 returns-then-not-is_done c =
     let call : ℕ → Log → Flash → Outcome = λ n l f. format_on l.state (seed_table c.args.seeds c.args.count) n l f in
-    let is-entry : let a = c.args in c.enter-e.result ≡ entry_of (sectors_in (length a.image.now)) a.log (seeds_known a.seeds a.count) counter_tag 0 = let a = c.args in
+    let is-entry : let a =
+    c.args in c.enter-e.result ≡ entry_of (sectors_in (length a.image.now)) a.log (seeds_known a.seeds a.count) counter_tag 0 = let a = c.args in
     c.enter-e.ensures
     ∙ ap₂ (λ (n : ℕ) (known : Bool). entry_of n a.log known counter_tag 0) c.sectors-n.ensures
     c.seeds_known.ensures in
@@ -45,7 +46,8 @@ returns-then-not-is_done c =
 
 pub seed_table-t-requires : goal.seed_table-t-requires
 seed_table-t-requires c =
-    let is-entry : let a = c.args in c.enter-e.result ≡ entry_of (sectors_in (length a.image.now)) a.log (seeds_known a.seeds a.count) counter_tag 0 = let a = c.args in
+    let is-entry : let a =
+    c.args in c.enter-e.result ≡ entry_of (sectors_in (length a.image.now)) a.log (seeds_known a.seeds a.count) counter_tag 0 = let a = c.args in
     c.enter-e.ensures
     ∙ ap₂ (λ (n : ℕ) (known : Bool). entry_of n a.log known counter_tag 0) c.sectors-n.ensures
     c.seeds_known.ensures in
@@ -61,7 +63,8 @@ seed_table-t-requires c =
 
 pub format_with-requires : goal.format_with-requires
 format_with-requires c =
-    let is-entry : let a = c.args in c.enter-e.result ≡ entry_of (sectors_in (length a.image.now)) a.log (seeds_known a.seeds a.count) counter_tag 0 = let a = c.args in
+    let is-entry : let a =
+    c.args in c.enter-e.result ≡ entry_of (sectors_in (length a.image.now)) a.log (seeds_known a.seeds a.count) counter_tag 0 = let a = c.args in
     c.enter-e.ensures
     ∙ ap₂ (λ (n : ℕ) (known : Bool). entry_of n a.log known counter_tag 0) c.sectors-n.ensures
     c.seeds_known.ensures in
@@ -88,12 +91,15 @@ pub returns-in-Unformatted : goal.returns-in-Unformatted
 unfolding format_of
 returns-in-Unformatted c =
     let call : ℕ → Log → Flash → Outcome = λ n l f. format_on l.state (seed_table c.args.seeds c.args.count) n l f in
-    let is-entry : let a = c.args in c.enter-e.result ≡ entry_of (sectors_in (length a.image.now)) a.log (seeds_known a.seeds a.count) counter_tag 0 = let a = c.args in
+    let is-entry : let a =
+    c.args in c.enter-e.result ≡ entry_of (sectors_in (length a.image.now)) a.log (seeds_known a.seeds a.count) counter_tag 0 = let a = c.args in
     c.enter-e.ensures
     ∙ ap₂ (λ (n : ℕ) (known : Bool). entry_of n a.log known counter_tag 0) c.sectors-n.ensures
     c.seeds_known.ensures in
     let done-as : is_done c.enter-e.result.answer ≡ true = sym c.is_done.ensures ∙ not-false c.is_done.result c.if-not-is_done.false-raw in
-    let state_says : (s : State) → let e = c in let a = e.args in a.log.state ≡ s → format_of a.image.now a.log a.plan a.seeds a.count ≡ format_on s (seed_table a.seeds a.count) (sectors_in (length a.image.now)) a.log (flash_of a.image.now a.plan) = λ s h. let e = c in
+    let state_says : (s : State) → let e =
+    c in let a = e.args in a.log.state ≡ s → format_of a.image.now a.log a.plan a.seeds a.count
+    ≡ format_on s (seed_table a.seeds a.count) (sectors_in (length a.image.now)) a.log (flash_of a.image.now a.plan) = λ s h. let e = c in
     let a = e.args in
     entered_in a.image.now a.log a.plan (seeds_known a.seeds a.count) counter_tag 0 e.enter-e.result is-entry
     call done-as
@@ -117,12 +123,15 @@ pub returns-in-Failed : goal.returns-in-Failed
 unfolding format_of
 returns-in-Failed c =
     let call : ℕ → Log → Flash → Outcome = λ n l f. format_on l.state (seed_table c.args.seeds c.args.count) n l f in
-    let is-entry : let a = c.args in c.enter-e.result ≡ entry_of (sectors_in (length a.image.now)) a.log (seeds_known a.seeds a.count) counter_tag 0 = let a = c.args in
+    let is-entry : let a =
+    c.args in c.enter-e.result ≡ entry_of (sectors_in (length a.image.now)) a.log (seeds_known a.seeds a.count) counter_tag 0 = let a = c.args in
     c.enter-e.ensures
     ∙ ap₂ (λ (n : ℕ) (known : Bool). entry_of n a.log known counter_tag 0) c.sectors-n.ensures
     c.seeds_known.ensures in
     let done-as : is_done c.enter-e.result.answer ≡ true = sym c.is_done.ensures ∙ not-false c.is_done.result c.if-not-is_done.false-raw in
-    let state_says : (s : State) → let e = c in let a = e.args in a.log.state ≡ s → format_of a.image.now a.log a.plan a.seeds a.count ≡ format_on s (seed_table a.seeds a.count) (sectors_in (length a.image.now)) a.log (flash_of a.image.now a.plan) = λ s h. let a = c.args in
+    let state_says : (s : State) → let e =
+    c in let a = e.args in a.log.state ≡ s → format_of a.image.now a.log a.plan a.seeds a.count
+    ≡ format_on s (seed_table a.seeds a.count) (sectors_in (length a.image.now)) a.log (flash_of a.image.now a.plan) = λ s h. let a = c.args in
     entered_in a.image.now a.log a.plan (seeds_known a.seeds a.count) counter_tag 0 c.enter-e.result is-entry
     call done-as
     ∙ ap
@@ -137,12 +146,15 @@ pub returns-in-Active : goal.returns-in-Active
 unfolding format_of
 returns-in-Active c =
     let call : ℕ → Log → Flash → Outcome = λ n l f. format_on l.state (seed_table c.args.seeds c.args.count) n l f in
-    let is-entry : let a = c.args in c.enter-e.result ≡ entry_of (sectors_in (length a.image.now)) a.log (seeds_known a.seeds a.count) counter_tag 0 = let a = c.args in
+    let is-entry : let a =
+    c.args in c.enter-e.result ≡ entry_of (sectors_in (length a.image.now)) a.log (seeds_known a.seeds a.count) counter_tag 0 = let a = c.args in
     c.enter-e.ensures
     ∙ ap₂ (λ (n : ℕ) (known : Bool). entry_of n a.log known counter_tag 0) c.sectors-n.ensures
     c.seeds_known.ensures in
     let done-as : is_done c.enter-e.result.answer ≡ true = sym c.is_done.ensures ∙ not-false c.is_done.result c.if-not-is_done.false-raw in
-    let state_says : (s : State) → let e = c in let a = e.args in a.log.state ≡ s → format_of a.image.now a.log a.plan a.seeds a.count ≡ format_on s (seed_table a.seeds a.count) (sectors_in (length a.image.now)) a.log (flash_of a.image.now a.plan) = λ s h. let a = c.args in
+    let state_says : (s : State) → let e =
+    c in let a = e.args in a.log.state ≡ s → format_of a.image.now a.log a.plan a.seeds a.count
+    ≡ format_on s (seed_table a.seeds a.count) (sectors_in (length a.image.now)) a.log (flash_of a.image.now a.plan) = λ s h. let a = c.args in
     entered_in a.image.now a.log a.plan (seeds_known a.seeds a.count) counter_tag 0 c.enter-e.result is-entry
     call done-as
     ∙ ap

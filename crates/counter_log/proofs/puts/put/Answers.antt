@@ -16,7 +16,9 @@ use Rattle.counter_log.proofs.puts.put.Goals as goal
 
 pub perform-requires : goal.perform-requires
 perform-requires c =
-    let is-entry : let a = c.args in c.enter-e.result ≡ entry_of (sectors_in (length a.image.now)) a.log (is_credential a.credential) counter_tag a.credential = let a = c.args in
+    let is-entry : let a =
+    c.args in c.enter-e.result
+    ≡ entry_of (sectors_in (length a.image.now)) a.log (is_credential a.credential) counter_tag a.credential = let a = c.args in
     c.enter-e.ensures
     ∙ ap₂ (λ (n : ℕ) (known : Bool). entry_of n a.log known counter_tag a.credential) c.sectors-n.ensures
     c.is_credential.ensures in
@@ -31,7 +33,9 @@ perform-requires c =
 pub returns : goal.returns
 unfolding put_of
 returns c =
-    let is-entry : let a = c.args in c.enter-e.result ≡ entry_of (sectors_in (length a.image.now)) a.log (is_credential a.credential) counter_tag a.credential = let a = c.args in
+    let is-entry : let a =
+    c.args in c.enter-e.result
+    ≡ entry_of (sectors_in (length a.image.now)) a.log (is_credential a.credential) counter_tag a.credential = let a = c.args in
     c.enter-e.ensures
     ∙ ap₂ (λ (n : ℕ) (known : Bool). entry_of n a.log known counter_tag a.credential) c.sectors-n.ensures
     c.is_credential.ensures in

@@ -40,11 +40,15 @@ pub returns : goal.returns
 returns c =
     let before : List Raw = records_of c.args.log in
     let after : List Raw = joined c.args.rec before in
-    let counted : c.args.log.count ≡ length before = sym (records_length c.args.log (whole-log c.args.log c.well_formed.1.0) c.args.sectors c.requires.0.fits) in
-    let tabled : c.args.log.table ≡ places before = ap (λ (l : Log). l.table) (log_is c.args.log (whole-log c.args.log c.well_formed.1.0) c.args.sectors c.requires.0.fits) in
+    let counted : c.args.log.count ≡ length before =
+    sym (records_length c.args.log (whole-log c.args.log c.well_formed.1.0) c.args.sectors c.requires.0.fits) in
+    let tabled : c.args.log.table ≡ places before =
+    ap (λ (l : Log). l.table) (log_is c.args.log (whole-log c.args.log c.well_formed.1.0) c.args.sectors c.requires.0.fits) in
     let placed : ℕ = place_of c.args.rec.tag c.args.rec.id before in
-    let made : (set (places before) placed c.args.rec ≡ places after) × (new_count (length before) placed ≡ length after) = stored c.args.rec before (omega (arith, c.requires.2.place, c.requires.2.free)) in
-    let new-table : set c.args.log.table c.args.at c.args.rec ≡ places after = ap₂ (λ (t : List Raw) (k : ℕ). set t k c.args.rec) tabled c.requires.2.place ∙ made.0 in
+    let made : (set (places before) placed c.args.rec ≡ places after) × (new_count (length before) placed ≡ length after) =
+    stored c.args.rec before (omega (arith, c.requires.2.place, c.requires.2.free)) in
+    let new-table : set c.args.log.table c.args.at c.args.rec ≡ places after =
+    ap₂ (λ (t : List Raw) (k : ℕ). set t k c.args.rec) tabled c.requires.2.place ∙ made.0 in
     let new-count : new_count c.args.log.count c.args.at ≡ length after = ap₂ new_count counted c.requires.2.place ∙ made.1 in
     λ cut.
     let a = c.args in

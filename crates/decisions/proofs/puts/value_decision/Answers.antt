@@ -15,14 +15,17 @@ use Rattle.decisions.proofs.puts.value_decision.Goals as goal
 
 pub returns-then-not-held : goal.returns-then-not-held
 returns-then-not-held c =
-    let written : let a = c.args in c.writes-written.result ≡ write a.room (value_record a.id a.new) 0 = c.writes-written.ensures ∙ ap (λ (r : Raw). write c.args.room r 0) c.value_record.ensures in
+    let written : let a =
+    c.args in c.writes-written.result ≡ write a.room (value_record a.id a.new) 0 = c.writes-written.ensures
+    ∙ ap (λ (r : Raw). write c.args.room r 0) c.value_record.ensures in
     let a = c.args in
     written ∙ sym (value-first a.held a.room a.id a.new (not-true a.held.some c.if-not-held.true))
 
 pub returns-then-new-old : goal.returns-then-new-old
 returns-then-new-old c =
     let new-written : Decision = value_written c.args.held c.args.room c.args.id c.args.new in
-    let over : let s = c in let a = s.args in value_decision a.held a.room a.id a.new ≡ value_over a.id a.new c.value_of-old.result new-written = let a = c.args in
+    let over : let s = c in let a =
+    s.args in value_decision a.held a.room a.id a.new ≡ value_over a.id a.new c.value_of-old.result new-written = let a = c.args in
     value-over a.held a.room a.id a.new (not-false a.held.some c.if-not-held.false) c.value_of-old.result
     c.value_of-old.ensures in
     let s = c in
@@ -31,9 +34,12 @@ returns-then-new-old c =
 
 pub returns-then-old-new : goal.returns-then-old-new
 returns-then-old-new c =
-    let written : let a = c.args in c.writes-written.result ≡ write a.room (value_record a.id a.new) 0 = c.writes-written.ensures ∙ ap (λ (r : Raw). write c.args.room r 0) c.value_record.ensures in
+    let written : let a =
+    c.args in c.writes-written.result ≡ write a.room (value_record a.id a.new) 0 = c.writes-written.ensures
+    ∙ ap (λ (r : Raw). write c.args.room r 0) c.value_record.ensures in
     let new-written : Decision = value_written c.args.held c.args.room c.args.id c.args.new in
-    let over : let s = c in let a = s.args in value_decision a.held a.room a.id a.new ≡ value_over a.id a.new c.value_of-old.result new-written = let a = c.args in
+    let over : let s = c in let a =
+    s.args in value_decision a.held a.room a.id a.new ≡ value_over a.id a.new c.value_of-old.result new-written = let a = c.args in
     value-over a.held a.room a.id a.new (not-false a.held.some c.if-not-held.false) c.value_of-old.result
     c.value_of-old.ensures in
     let s = c in
@@ -42,10 +48,12 @@ returns-then-old-new c =
 pub returns-then-is_monotonic : goal.returns-then-is_monotonic
 returns-then-is_monotonic c =
     let new-written : Decision = value_written c.args.held c.args.room c.args.id c.args.new in
-    let over : let s = c in let a = s.args in value_decision a.held a.room a.id a.new ≡ value_over a.id a.new c.value_of-old.result new-written = let a = c.args in
+    let over : let s = c in let a =
+    s.args in value_decision a.held a.room a.id a.new ≡ value_over a.id a.new c.value_of-old.result new-written = let a = c.args in
     value-over a.held a.room a.id a.new (not-false a.held.some c.if-not-held.false) c.value_of-old.result
     c.value_of-old.ensures in
-    let below : let s = c in let a = s.args in value_decision a.held a.room a.id a.new ≡ pick (is_monotonic value_tag a.id) (refuse IntegrityFailure) new-written = let s = c in
+    let below : let s = c in let a =
+    s.args in value_decision a.held a.room a.id a.new ≡ pick (is_monotonic value_tag a.id) (refuse IntegrityFailure) new-written = let s = c in
     over
     ∙ over_below s.args.id s.args.new c.value_of-old.result new-written (omega (arith, c.if-old-new.false, c.if-new-old.false)) in
     let falls = sym c.is_monotonic.ensures ∙ c.if-is_monotonic.true in
@@ -54,12 +62,16 @@ returns-then-is_monotonic c =
 
 pub returns : goal.returns
 returns c =
-    let written : let a = c.args in c.writes-written.result ≡ write a.room (value_record a.id a.new) 0 = c.writes-written.ensures ∙ ap (λ (r : Raw). write c.args.room r 0) c.value_record.ensures in
+    let written : let a =
+    c.args in c.writes-written.result ≡ write a.room (value_record a.id a.new) 0 = c.writes-written.ensures
+    ∙ ap (λ (r : Raw). write c.args.room r 0) c.value_record.ensures in
     let new-written : Decision = value_written c.args.held c.args.room c.args.id c.args.new in
-    let over : let s = c in let a = s.args in value_decision a.held a.room a.id a.new ≡ value_over a.id a.new c.value_of-old.result new-written = let a = c.args in
+    let over : let s = c in let a =
+    s.args in value_decision a.held a.room a.id a.new ≡ value_over a.id a.new c.value_of-old.result new-written = let a = c.args in
     value-over a.held a.room a.id a.new (not-false a.held.some c.if-not-held.false) c.value_of-old.result
     c.value_of-old.ensures in
-    let below : let s = c in let a = s.args in value_decision a.held a.room a.id a.new ≡ pick (is_monotonic value_tag a.id) (refuse IntegrityFailure) new-written = let s = c in
+    let below : let s = c in let a =
+    s.args in value_decision a.held a.room a.id a.new ≡ pick (is_monotonic value_tag a.id) (refuse IntegrityFailure) new-written = let s = c in
     over
     ∙ over_below s.args.id s.args.new c.value_of-old.result new-written (omega (arith, c.if-old-new.false, c.if-new-old.false)) in
     let free = sym c.is_monotonic.ensures ∙ c.if-is_monotonic.false in

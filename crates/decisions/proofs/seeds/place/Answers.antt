@@ -18,7 +18,8 @@ bounds-table-i c = omega (arith, c.requires)
 
 pub returns-then-has_key : goal.returns-then-has_key
 returns-then-has_key c =
-    let here : (b : Bool) → c.has_key.result ≡ b → let a = c.args in let l = c.loop-i in has_key a.tag a.id (get_or (take a.count a.table) l.i nowhere) ≡ b = λ b e. let a = c.args in
+    let here : (b : Bool) → c.has_key.result ≡ b → let a =
+    c.args in let l = c.loop-i in has_key a.tag a.id (get_or (take a.count a.table) l.i nowhere) ≡ b = λ b e. let a = c.args in
     let l = c.loop-i in
     ap (has_key a.tag a.id) (get_or-take a.count a.table l.i nowhere (omega arith)) ∙ sym c.has_key.ensures ∙ e in
     let l = c.loop-i in
@@ -30,7 +31,8 @@ overflow_add-i c = omega (arith, c.requires)
 
 pub loop-i-preserved : goal.loop-i-preserved
 loop-i-preserved c =
-    let here : (b : Bool) → c.has_key.result ≡ b → let a = c.args in let l = c.loop-i in has_key a.tag a.id (get_or (take a.count a.table) l.i nowhere) ≡ b = λ b e. let a = c.args in
+    let here : (b : Bool) → c.has_key.result ≡ b → let a =
+    c.args in let l = c.loop-i in has_key a.tag a.id (get_or (take a.count a.table) l.i nowhere) ≡ b = λ b e. let a = c.args in
     let l = c.loop-i in
     ap (has_key a.tag a.id) (get_or-take a.count a.table l.i nowhere (omega arith)) ∙ sym c.has_key.ensures ∙ e in
     let l = c.loop-i in

@@ -30,7 +30,9 @@ bounds-seeds-i c = omega (arith, c.if-count-gt-SEEDS.false)
 
 pub returns-then-not-is_credential : goal.returns-then-not-is_credential
 returns-then-not-is_credential c =
-    let turn : (b : Bool) → c.is_credential.result ≡ b → let a = c.args in let l = c.loop-i in (b && all_known (drop (l.i + 1) (take a.count a.seeds))) ≡ all_known (take a.count a.seeds) = λ b e. let a = c.args in
+    let turn : (b : Bool) → c.is_credential.result ≡ b → let a =
+    c.args in let l = c.loop-i in (b && all_known (drop (l.i + 1) (take a.count a.seeds)))
+    ≡ all_known (take a.count a.seeds) = λ b e. let a = c.args in
     let l = c.loop-i in
     let rest = all_known (drop (l.i + 1) (take a.count a.seeds)) in
     ap (λ (x : Bool). x && rest)
@@ -46,7 +48,9 @@ overflow_add-i c = omega (arith, c.if-count-gt-SEEDS.false)
 
 pub loop-i-preserved : goal.loop-i-preserved
 loop-i-preserved c =
-    let turn : (b : Bool) → c.is_credential.result ≡ b → let a = c.args in let l = c.loop-i in (b && all_known (drop (l.i + 1) (take a.count a.seeds))) ≡ all_known (take a.count a.seeds) = λ b e. let a = c.args in
+    let turn : (b : Bool) → c.is_credential.result ≡ b → let a =
+    c.args in let l = c.loop-i in (b && all_known (drop (l.i + 1) (take a.count a.seeds)))
+    ≡ all_known (take a.count a.seeds) = λ b e. let a = c.args in
     let l = c.loop-i in
     let rest = all_known (drop (l.i + 1) (take a.count a.seeds)) in
     ap (λ (x : Bool). x && rest)

@@ -13,7 +13,8 @@ loop-i-init c = (omega arith, refl)
 
 pub bounds-part-i : goal.bounds-part-i
 bounds-part-i c =
-    let long : length c.loop-i.part ≡ length c.args.part.now = ap length c.loop-i.invariant.1 ∙ blanked-length c.loop-i.i c.args.part.now (omega (arith, c.requires)) in
+    let long : length c.loop-i.part ≡ length c.args.part.now =
+    ap length c.loop-i.invariant.1 ∙ blanked-length c.loop-i.i c.args.part.now (omega (arith, c.requires)) in
     omega (arith, long)
 
 pub loop-i-preserved : goal.loop-i-preserved
@@ -24,7 +25,8 @@ loop-i-preserved c =
 
 pub shape_of-part : goal.shape_of-part
 shape_of-part c =
-    let long : length c.loop-i.part ≡ length c.args.part.now = ap length c.loop-i.invariant.1 ∙ blanked-length c.loop-i.i c.args.part.now (omega (arith, c.requires)) in
+    let long : length c.loop-i.part ≡ length c.args.part.now =
+    ap length c.loop-i.invariant.1 ∙ blanked-length c.loop-i.i c.args.part.now (omega (arith, c.requires)) in
     long
 
 pub returns : goal.returns

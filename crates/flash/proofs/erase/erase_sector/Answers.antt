@@ -16,7 +16,9 @@ pub returns-then-n-lt-SECTOR : goal.returns-then-n-lt-SECTOR
 unfolding sector_at with_sector
 returns-then-n-lt-SECTOR c =
     let left : List ℕ = let args = c.args in blanked args.n (sector_at args.image.now args.sector) in
-    let whole : let args = c.args in let a = args.sector * 4096 in splice a (a + 4096 - a) c.blank.new.part args.image.now ≡ with_sector args.sector left args.image.now = let args = c.args in
+    let whole : let args =
+    c.args in let a = args.sector * 4096 in splice a (a + 4096 - a) c.blank.new.part args.image.now
+    ≡ with_sector args.sector left args.image.now = let args = c.args in
     lent-whole (args.sector * 4096) 4096 (blanked args.n) args.image.now c.blank.new.part c.blank.ensures in
     (rw (lt-ltb c.args.n 4096 (omega arith)), whole)
 
@@ -24,7 +26,9 @@ pub returns-then-is_erased : goal.returns-then-is_erased
 unfolding sector_at with_sector
 returns-then-is_erased c =
     let left : List ℕ = let args = c.args in blanked args.n (sector_at args.image.now args.sector) in
-    let whole : let args = c.args in let a = args.sector * 4096 in splice a (a + 4096 - a) c.blank.new.part args.image.now ≡ with_sector args.sector left args.image.now = let args = c.args in
+    let whole : let args =
+    c.args in let a = args.sector * 4096 in splice a (a + 4096 - a) c.blank.new.part args.image.now
+    ≡ with_sector args.sector left args.image.now = let args = c.args in
     lent-whole (args.sector * 4096) 4096 (blanked args.n) args.image.now c.blank.new.part c.blank.ensures in
     let found : c.is_erased.result ≡ all_are 0xFF left = let args = c.args in
     let blanks = blanked args.n in
@@ -39,7 +43,9 @@ pub returns-else-is_erased : goal.returns-else-is_erased
 unfolding sector_at with_sector
 returns-else-is_erased c =
     let left : List ℕ = let args = c.args in blanked args.n (sector_at args.image.now args.sector) in
-    let whole : let args = c.args in let a = args.sector * 4096 in splice a (a + 4096 - a) c.blank.new.part args.image.now ≡ with_sector args.sector left args.image.now = let args = c.args in
+    let whole : let args =
+    c.args in let a = args.sector * 4096 in splice a (a + 4096 - a) c.blank.new.part args.image.now
+    ≡ with_sector args.sector left args.image.now = let args = c.args in
     lent-whole (args.sector * 4096) 4096 (blanked args.n) args.image.now c.blank.new.part c.blank.ensures in
     let found : c.is_erased.result ≡ all_are 0xFF left = let args = c.args in
     let blanks = blanked args.n in

@@ -16,7 +16,9 @@ pub returns-then-n-lt-SLOT : goal.returns-then-n-lt-SLOT
 unfolding slot_at with_slot
 returns-then-n-lt-SLOT c =
     let left : List ℕ = let args = c.args in landed args.n args.bytes (slot_at args.image.now args.sector args.slot) in
-    let whole : let args = c.args in let a = addr args.sector args.slot in splice a (a + 16 - a) c.program.new.slot args.image.now ≡ with_slot args.sector args.slot left args.image.now = let args = c.args in
+    let whole : let args =
+    c.args in let a = addr args.sector args.slot in splice a (a + 16 - a) c.program.new.slot args.image.now
+    ≡ with_slot args.sector args.slot left args.image.now = let args = c.args in
     lent-whole (addr args.sector args.slot) 16 (landed args.n args.bytes) args.image.now c.program.new.slot c.program.ensures in
     (rw (lt-ltb c.args.n 16 (omega arith)), whole)
 
@@ -24,7 +26,9 @@ pub returns-then-reads_back : goal.returns-then-reads_back
 unfolding slot_at with_slot
 returns-then-reads_back c =
     let left : List ℕ = let args = c.args in landed args.n args.bytes (slot_at args.image.now args.sector args.slot) in
-    let whole : let args = c.args in let a = addr args.sector args.slot in splice a (a + 16 - a) c.program.new.slot args.image.now ≡ with_slot args.sector args.slot left args.image.now = let args = c.args in
+    let whole : let args =
+    c.args in let a = addr args.sector args.slot in splice a (a + 16 - a) c.program.new.slot args.image.now
+    ≡ with_slot args.sector args.slot left args.image.now = let args = c.args in
     lent-whole (addr args.sector args.slot) 16 (landed args.n args.bytes) args.image.now c.program.new.slot c.program.ensures in
     let found : c.reads_back.result ≡ same left c.args.bytes = let args = c.args in
     let lands = landed args.n args.bytes in
@@ -39,7 +43,9 @@ pub returns-else-reads_back : goal.returns-else-reads_back
 unfolding slot_at with_slot
 returns-else-reads_back c =
     let left : List ℕ = let args = c.args in landed args.n args.bytes (slot_at args.image.now args.sector args.slot) in
-    let whole : let args = c.args in let a = addr args.sector args.slot in splice a (a + 16 - a) c.program.new.slot args.image.now ≡ with_slot args.sector args.slot left args.image.now = let args = c.args in
+    let whole : let args =
+    c.args in let a = addr args.sector args.slot in splice a (a + 16 - a) c.program.new.slot args.image.now
+    ≡ with_slot args.sector args.slot left args.image.now = let args = c.args in
     lent-whole (addr args.sector args.slot) 16 (landed args.n args.bytes) args.image.now c.program.new.slot c.program.ensures in
     let found : c.reads_back.result ≡ same left c.args.bytes = let args = c.args in
     let lands = landed args.n args.bytes in

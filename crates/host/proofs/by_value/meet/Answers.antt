@@ -30,60 +30,80 @@ step-done o s left shows log r e =
 pub returns-in-Nothing : goal.returns-in-Nothing
 returns-in-Nothing c =
     let asked : Kind → Outcome = λ k. asked_by k c.args.request.seeds c.args.request.bytes c.args.image.now c.args.log c.args.plan in
-    let by_kind : (k : Kind) → c.args.request.kind ≡ k → (r : Done) (left : List ℕ) → ShowsDone (asked k) r left → ShowsDone (requested c.args.request c.args.image.now c.args.log c.args.plan) r left = λ k e r left. subst (λ (x : Kind). ShowsDone (asked x) r left) (sym e) in
+    let by_kind : (k : Kind) → c.args.request.kind ≡ k → (r : Done) (left : List ℕ) → ShowsDone (asked k) r left
+    → ShowsDone (requested c.args.request c.args.image.now c.args.log c.args.plan) r left = λ k e r left. subst
+    (λ (x : Kind). ShowsDone (asked x) r left) (sym e) in
     by_kind _ c.in-Nothing.is _ _
     (nothing-done c.args.image.now c.args.log c.args.plan _ c.unused.ensures _ c.answered.ensures)
 
 pub returns-in-Put : goal.returns-in-Put
 returns-in-Put c =
     let asked : Kind → Outcome = λ k. asked_by k c.args.request.seeds c.args.request.bytes c.args.image.now c.args.log c.args.plan in
-    let by_kind : (k : Kind) → c.args.request.kind ≡ k → (r : Done) (left : List ℕ) → ShowsDone (asked k) r left → ShowsDone (requested c.args.request c.args.image.now c.args.log c.args.plan) r left = λ k e r left. subst (λ (x : Kind). ShowsDone (asked x) r left) (sym e) in
+    let by_kind : (k : Kind) → c.args.request.kind ≡ k → (r : Done) (left : List ℕ) → ShowsDone (asked k) r left
+    → ShowsDone (requested c.args.request c.args.image.now c.args.log c.args.plan) r left = λ k e r left. subst
+    (λ (x : Kind). ShowsDone (asked x) r left) (sym e) in
     by_kind _ c.in-Put.is _ _ c.put.ensures
 
 pub returns-in-PutValue : goal.returns-in-PutValue
 returns-in-PutValue c =
     let asked : Kind → Outcome = λ k. asked_by k c.args.request.seeds c.args.request.bytes c.args.image.now c.args.log c.args.plan in
-    let by_kind : (k : Kind) → c.args.request.kind ≡ k → (r : Done) (left : List ℕ) → ShowsDone (asked k) r left → ShowsDone (requested c.args.request c.args.image.now c.args.log c.args.plan) r left = λ k e r left. subst (λ (x : Kind). ShowsDone (asked x) r left) (sym e) in
+    let by_kind : (k : Kind) → c.args.request.kind ≡ k → (r : Done) (left : List ℕ) → ShowsDone (asked k) r left
+    → ShowsDone (requested c.args.request c.args.image.now c.args.log c.args.plan) r left = λ k e r left. subst
+    (λ (x : Kind). ShowsDone (asked x) r left) (sym e) in
     by_kind _ c.in-PutValue.is _ _ c.put_value.ensures
 
 pub returns-in-PutAnchor : goal.returns-in-PutAnchor
 returns-in-PutAnchor c =
     let asked : Kind → Outcome = λ k. asked_by k c.args.request.seeds c.args.request.bytes c.args.image.now c.args.log c.args.plan in
-    let by_kind : (k : Kind) → c.args.request.kind ≡ k → (r : Done) (left : List ℕ) → ShowsDone (asked k) r left → ShowsDone (requested c.args.request c.args.image.now c.args.log c.args.plan) r left = λ k e r left. subst (λ (x : Kind). ShowsDone (asked x) r left) (sym e) in
+    let by_kind : (k : Kind) → c.args.request.kind ≡ k → (r : Done) (left : List ℕ) → ShowsDone (asked k) r left
+    → ShowsDone (requested c.args.request c.args.image.now c.args.log c.args.plan) r left = λ k e r left. subst
+    (λ (x : Kind). ShowsDone (asked x) r left) (sym e) in
     by_kind _ c.in-PutAnchor.is _ _ c.put_anchor.ensures
 
 pub returns-in-Format : goal.returns-in-Format
 returns-in-Format c =
     let asked : Kind → Outcome = λ k. asked_by k c.args.request.seeds c.args.request.bytes c.args.image.now c.args.log c.args.plan in
-    let by_kind : (k : Kind) → c.args.request.kind ≡ k → (r : Done) (left : List ℕ) → ShowsDone (asked k) r left → ShowsDone (requested c.args.request c.args.image.now c.args.log c.args.plan) r left = λ k e r left. subst (λ (x : Kind). ShowsDone (asked x) r left) (sym e) in
+    let by_kind : (k : Kind) → c.args.request.kind ≡ k → (r : Done) (left : List ℕ) → ShowsDone (asked k) r left
+    → ShowsDone (requested c.args.request c.args.image.now c.args.log c.args.plan) r left = λ k e r left. subst
+    (λ (x : Kind). ShowsDone (asked x) r left) (sym e) in
     by_kind _ c.in-Format.is _ _ c.format.ensures
 
 pub returns-in-Spend : goal.returns-in-Spend
 returns-in-Spend c =
     let asked : Kind → Outcome = λ k. asked_by k c.args.request.seeds c.args.request.bytes c.args.image.now c.args.log c.args.plan in
-    let by_kind : (k : Kind) → c.args.request.kind ≡ k → (r : Done) (left : List ℕ) → ShowsDone (asked k) r left → ShowsDone (requested c.args.request c.args.image.now c.args.log c.args.plan) r left = λ k e r left. subst (λ (x : Kind). ShowsDone (asked x) r left) (sym e) in
+    let by_kind : (k : Kind) → c.args.request.kind ≡ k → (r : Done) (left : List ℕ) → ShowsDone (asked k) r left
+    → ShowsDone (requested c.args.request c.args.image.now c.args.log c.args.plan) r left = λ k e r left. subst
+    (λ (x : Kind). ShowsDone (asked x) r left) (sym e) in
     by_kind _ c.in-Spend.is _ _ c.spend.ensures
 
 pub returns-in-Set : goal.returns-in-Set
 returns-in-Set c =
     let asked : Kind → Outcome = λ k. asked_by k c.args.request.seeds c.args.request.bytes c.args.image.now c.args.log c.args.plan in
-    let by_kind : (k : Kind) → c.args.request.kind ≡ k → (r : Done) (left : List ℕ) → ShowsDone (asked k) r left → ShowsDone (requested c.args.request c.args.image.now c.args.log c.args.plan) r left = λ k e r left. subst (λ (x : Kind). ShowsDone (asked x) r left) (sym e) in
+    let by_kind : (k : Kind) → c.args.request.kind ≡ k → (r : Done) (left : List ℕ) → ShowsDone (asked k) r left
+    → ShowsDone (requested c.args.request c.args.image.now c.args.log c.args.plan) r left = λ k e r left. subst
+    (λ (x : Kind). ShowsDone (asked x) r left) (sym e) in
     by_kind _ c.in-Set.is _ _ c.set.ensures
 
 pub returns-in-AdvanceLamport : goal.returns-in-AdvanceLamport
 returns-in-AdvanceLamport c =
     let asked : Kind → Outcome = λ k. asked_by k c.args.request.seeds c.args.request.bytes c.args.image.now c.args.log c.args.plan in
-    let by_kind : (k : Kind) → c.args.request.kind ≡ k → (r : Done) (left : List ℕ) → ShowsDone (asked k) r left → ShowsDone (requested c.args.request c.args.image.now c.args.log c.args.plan) r left = λ k e r left. subst (λ (x : Kind). ShowsDone (asked x) r left) (sym e) in
+    let by_kind : (k : Kind) → c.args.request.kind ≡ k → (r : Done) (left : List ℕ) → ShowsDone (asked k) r left
+    → ShowsDone (requested c.args.request c.args.image.now c.args.log c.args.plan) r left = λ k e r left. subst
+    (λ (x : Kind). ShowsDone (asked x) r left) (sym e) in
     by_kind _ c.in-AdvanceLamport.is _ _ c.advance_lamport.ensures
 
 pub returns-in-Program : goal.returns-in-Program
 returns-in-Program c =
     let asked : Kind → Outcome = λ k. asked_by k c.args.request.seeds c.args.request.bytes c.args.image.now c.args.log c.args.plan in
-    let by_kind : (k : Kind) → c.args.request.kind ≡ k → (r : Done) (left : List ℕ) → ShowsDone (asked k) r left → ShowsDone (requested c.args.request c.args.image.now c.args.log c.args.plan) r left = λ k e r left. subst (λ (x : Kind). ShowsDone (asked x) r left) (sym e) in
+    let by_kind : (k : Kind) → c.args.request.kind ≡ k → (r : Done) (left : List ℕ) → ShowsDone (asked k) r left
+    → ShowsDone (requested c.args.request c.args.image.now c.args.log c.args.plan) r left = λ k e r left. subst
+    (λ (x : Kind). ShowsDone (asked x) r left) (sym e) in
     by_kind _ c.in-Program.is _ _ (step-done _ _ _ c.program.ensures c.args.log _ c.stepped.ensures)
 
 pub returns-in-Erase : goal.returns-in-Erase
 returns-in-Erase c =
     let asked : Kind → Outcome = λ k. asked_by k c.args.request.seeds c.args.request.bytes c.args.image.now c.args.log c.args.plan in
-    let by_kind : (k : Kind) → c.args.request.kind ≡ k → (r : Done) (left : List ℕ) → ShowsDone (asked k) r left → ShowsDone (requested c.args.request c.args.image.now c.args.log c.args.plan) r left = λ k e r left. subst (λ (x : Kind). ShowsDone (asked x) r left) (sym e) in
+    let by_kind : (k : Kind) → c.args.request.kind ≡ k → (r : Done) (left : List ℕ) → ShowsDone (asked k) r left
+    → ShowsDone (requested c.args.request c.args.image.now c.args.log c.args.plan) r left = λ k e r left. subst
+    (λ (x : Kind). ShowsDone (asked x) r left) (sym e) in
     by_kind _ c.in-Erase.is _ _ (step-done _ _ _ c.erase.ensures c.args.log _ c.stepped-in-Erase.ensures)

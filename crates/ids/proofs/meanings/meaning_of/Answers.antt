@@ -32,7 +32,8 @@ pub returns-in_default-id-3 : goal.returns-in_default-id-3
 unfolding meaning_of value_meaning
 returns-in_default-id-3 c =
     let d = c.args.id in
-    let beyond : 8 < d = ⊎_elim (λ e. absurd (c.in_default-id.in_default-own.rest.0.1 (inr (inr (sym e))))) (λ h. h) (eq-or-lt_of_le c.in_default-id.if-id-lt8-own.false) in
+    let beyond : 8 < d = ⊎_elim (λ e. absurd (c.in_default-id.in_default-own.rest.0.1 (inr (inr (sym e))))) (λ h. h)
+    (eq-or-lt_of_le c.in_default-id.if-id-lt8-own.false) in
     rw (c.in-76.is, le-leb 1 d (omega arith), lt-leb d 8 beyond)
 
 pub returns-in-1-to-8 : goal.returns-in-1-to-8
@@ -63,4 +64,9 @@ returns-in_default-id-2 c = rw (c.in-65.is, ne_eqb _ _ c.in_default-id-2.in_defa
 
 pub returns-in_default : goal.returns-in_default
 unfolding meaning_of
-returns-in_default c = rw (ne_eqb _ _ c.in_default.in_default-own.rest.0.0.1, ne_eqb _ _ c.in_default.in_default-own.rest.0.1, ne_eqb _ _ c.in_default.in_default-own.rest.1)
+returns-in_default c = rw (
+  ne_eqb _ _ c.in_default.in_default-own.rest.0.0.1,
+  ne_eqb _ _ c.in_default.in_default-own.rest.0.1,
+  ne_eqb _ _
+      c.in_default.in_default-own.rest.1,
+)

@@ -21,7 +21,8 @@ unfolding anchor_of
 returns-then-not-is_done c =
     let entry : Entry = c.enter-e.result in
     let is-entry : entry ≡ entry_of 16 c.args.log true anchor_tag 0 = c.enter-e.ensures in
-    let refused : is_done entry.answer ≡ false → Refused entry.answer ≡ anchor_of c.args.log = read-refused anchor_by Refused c.args.log true anchor_tag 0 entry is-entry in
+    let refused : is_done entry.answer ≡ false → Refused entry.answer ≡ anchor_of c.args.log =
+    read-refused anchor_by Refused c.args.log true anchor_tag 0 entry is-entry in
     (and_says anchored_says (anchor-says c.args.log)) (refused (sym c.is_done.ensures ∙ not-true c.is_done.result c.if-not-is_done.true-raw))
 
 -- where nothing is held, and where a record is
@@ -30,7 +31,8 @@ unfolding anchor_of
 returns-then-not-held c =
     let entry : Entry = c.enter-e.result in
     let is-entry : entry ≡ entry_of 16 c.args.log true anchor_tag 0 = c.enter-e.ensures in
-    let by : is_done entry.answer ≡ true → anchor_by c.args.log.state entry.held ≡ anchor_of c.args.log = read-by anchor_by Refused c.args.log true anchor_tag 0 entry is-entry in
+    let by : is_done entry.answer ≡ true → anchor_by c.args.log.state entry.held ≡ anchor_of c.args.log =
+    read-by anchor_by Refused c.args.log true anchor_tag 0 entry is-entry in
     let let-in : (s : State) → c.args.log.state ≡ s → anchor_by s entry.held ≡ anchor_of c.args.log = λ s e. ap (λ (x : State). anchor_by x entry.held) (sym e)
     ∙ by (sym c.is_done.ensures ∙ not-false c.is_done.result c.if-not-is_done.false-raw) in
     let held = entry.held in
@@ -43,7 +45,8 @@ unfolding anchor_of
 returns-in-Unformatted c =
     let entry : Entry = c.enter-e.result in
     let is-entry : entry ≡ entry_of 16 c.args.log true anchor_tag 0 = c.enter-e.ensures in
-    let by : is_done entry.answer ≡ true → anchor_by c.args.log.state entry.held ≡ anchor_of c.args.log = read-by anchor_by Refused c.args.log true anchor_tag 0 entry is-entry in
+    let by : is_done entry.answer ≡ true → anchor_by c.args.log.state entry.held ≡ anchor_of c.args.log =
+    read-by anchor_by Refused c.args.log true anchor_tag 0 entry is-entry in
     let let-in : (s : State) → c.args.log.state ≡ s → anchor_by s entry.held ≡ anchor_of c.args.log = λ s e. ap (λ (x : State). anchor_by x entry.held) (sym e)
     ∙ by (sym c.is_done.ensures ∙ not-false c.is_done.result c.if-not-is_done.false-raw) in
     (and_says anchored_says (anchor-says c.args.log)) (let-in _ c.in-Unformatted.is)
@@ -53,7 +56,8 @@ unfolding anchor_of
 returns-in-Failed c =
     let entry : Entry = c.enter-e.result in
     let is-entry : entry ≡ entry_of 16 c.args.log true anchor_tag 0 = c.enter-e.ensures in
-    let by : is_done entry.answer ≡ true → anchor_by c.args.log.state entry.held ≡ anchor_of c.args.log = read-by anchor_by Refused c.args.log true anchor_tag 0 entry is-entry in
+    let by : is_done entry.answer ≡ true → anchor_by c.args.log.state entry.held ≡ anchor_of c.args.log =
+    read-by anchor_by Refused c.args.log true anchor_tag 0 entry is-entry in
     let let-in : (s : State) → c.args.log.state ≡ s → anchor_by s entry.held ≡ anchor_of c.args.log = λ s e. ap (λ (x : State). anchor_by x entry.held) (sym e)
     ∙ by (sym c.is_done.ensures ∙ not-false c.is_done.result c.if-not-is_done.false-raw) in
     (and_says anchored_says (anchor-says c.args.log)) (let-in _ c.in-Failed.is)
@@ -63,7 +67,8 @@ unfolding anchor_of
 returns-else-not-held c =
     let entry : Entry = c.enter-e.result in
     let is-entry : entry ≡ entry_of 16 c.args.log true anchor_tag 0 = c.enter-e.ensures in
-    let by : is_done entry.answer ≡ true → anchor_by c.args.log.state entry.held ≡ anchor_of c.args.log = read-by anchor_by Refused c.args.log true anchor_tag 0 entry is-entry in
+    let by : is_done entry.answer ≡ true → anchor_by c.args.log.state entry.held ≡ anchor_of c.args.log =
+    read-by anchor_by Refused c.args.log true anchor_tag 0 entry is-entry in
     let let-in : (s : State) → c.args.log.state ≡ s → anchor_by s entry.held ≡ anchor_of c.args.log = λ s e. ap (λ (x : State). anchor_by x entry.held) (sym e)
     ∙ by (sym c.is_done.ensures ∙ not-false c.is_done.result c.if-not-is_done.false-raw) in
     let held = entry.held in

@@ -23,7 +23,8 @@ returns-then-not-is_done c =
     let is-entry : entry ≡ entry_of 16 c.args.log (is_credential c.args.credential) counter_tag c.args.credential = c.enter-e.ensures
     ∙ ap (λ (known : Bool). entry_of 16 c.args.log known counter_tag c.args.credential)
     c.is_credential.ensures in
-    let refused : is_done entry.answer ≡ false → Refused entry.answer ≡ get_of c.args.log c.args.credential = read-refused counter_by Refused c.args.log (is_credential c.args.credential) counter_tag
+    let refused : is_done entry.answer ≡ false → Refused entry.answer ≡ get_of c.args.log c.args.credential =
+    read-refused counter_by Refused c.args.log (is_credential c.args.credential) counter_tag
     c.args.credential entry is-entry in
     (and_says counter_says (get-says c.args.log c.args.credential)) (refused (sym c.is_done.ensures ∙ not-true c.is_done.result c.if-not-is_done.true-raw))
 
@@ -35,9 +36,11 @@ returns-then-not-held c =
     let is-entry : entry ≡ entry_of 16 c.args.log (is_credential c.args.credential) counter_tag c.args.credential = c.enter-e.ensures
     ∙ ap (λ (known : Bool). entry_of 16 c.args.log known counter_tag c.args.credential)
     c.is_credential.ensures in
-    let by : is_done entry.answer ≡ true → counter_by c.args.log.state entry.held ≡ get_of c.args.log c.args.credential = read-by counter_by Refused c.args.log (is_credential c.args.credential) counter_tag c.args.credential
+    let by : is_done entry.answer ≡ true → counter_by c.args.log.state entry.held ≡ get_of c.args.log c.args.credential =
+    read-by counter_by Refused c.args.log (is_credential c.args.credential) counter_tag c.args.credential
     entry is-entry in
-    let let-in : (s : State) → c.args.log.state ≡ s → counter_by s entry.held ≡ get_of c.args.log c.args.credential = λ s e. ap (λ (x : State). counter_by x entry.held) (sym e)
+    let let-in : (s : State) → c.args.log.state ≡ s → counter_by s entry.held ≡ get_of c.args.log c.args.credential =
+    λ s e. ap (λ (x : State). counter_by x entry.held) (sym e)
     ∙ by (sym c.is_done.ensures ∙ not-false c.is_done.result c.if-not-is_done.false-raw) in
     let held = entry.held in
     (and_says counter_says (get-says c.args.log c.args.credential))
@@ -51,9 +54,11 @@ returns-in-Unformatted c =
     let is-entry : entry ≡ entry_of 16 c.args.log (is_credential c.args.credential) counter_tag c.args.credential = c.enter-e.ensures
     ∙ ap (λ (known : Bool). entry_of 16 c.args.log known counter_tag c.args.credential)
     c.is_credential.ensures in
-    let by : is_done entry.answer ≡ true → counter_by c.args.log.state entry.held ≡ get_of c.args.log c.args.credential = read-by counter_by Refused c.args.log (is_credential c.args.credential) counter_tag c.args.credential
+    let by : is_done entry.answer ≡ true → counter_by c.args.log.state entry.held ≡ get_of c.args.log c.args.credential =
+    read-by counter_by Refused c.args.log (is_credential c.args.credential) counter_tag c.args.credential
     entry is-entry in
-    let let-in : (s : State) → c.args.log.state ≡ s → counter_by s entry.held ≡ get_of c.args.log c.args.credential = λ s e. ap (λ (x : State). counter_by x entry.held) (sym e)
+    let let-in : (s : State) → c.args.log.state ≡ s → counter_by s entry.held ≡ get_of c.args.log c.args.credential =
+    λ s e. ap (λ (x : State). counter_by x entry.held) (sym e)
     ∙ by (sym c.is_done.ensures ∙ not-false c.is_done.result c.if-not-is_done.false-raw) in
     (and_says counter_says (get-says c.args.log c.args.credential)) (let-in _ c.in-Unformatted.is)
 
@@ -64,9 +69,11 @@ returns-in-Failed c =
     let is-entry : entry ≡ entry_of 16 c.args.log (is_credential c.args.credential) counter_tag c.args.credential = c.enter-e.ensures
     ∙ ap (λ (known : Bool). entry_of 16 c.args.log known counter_tag c.args.credential)
     c.is_credential.ensures in
-    let by : is_done entry.answer ≡ true → counter_by c.args.log.state entry.held ≡ get_of c.args.log c.args.credential = read-by counter_by Refused c.args.log (is_credential c.args.credential) counter_tag c.args.credential
+    let by : is_done entry.answer ≡ true → counter_by c.args.log.state entry.held ≡ get_of c.args.log c.args.credential =
+    read-by counter_by Refused c.args.log (is_credential c.args.credential) counter_tag c.args.credential
     entry is-entry in
-    let let-in : (s : State) → c.args.log.state ≡ s → counter_by s entry.held ≡ get_of c.args.log c.args.credential = λ s e. ap (λ (x : State). counter_by x entry.held) (sym e)
+    let let-in : (s : State) → c.args.log.state ≡ s → counter_by s entry.held ≡ get_of c.args.log c.args.credential =
+    λ s e. ap (λ (x : State). counter_by x entry.held) (sym e)
     ∙ by (sym c.is_done.ensures ∙ not-false c.is_done.result c.if-not-is_done.false-raw) in
     (and_says counter_says (get-says c.args.log c.args.credential)) (let-in _ c.in-Failed.is)
 
@@ -77,9 +84,11 @@ returns-else-not-held c =
     let is-entry : entry ≡ entry_of 16 c.args.log (is_credential c.args.credential) counter_tag c.args.credential = c.enter-e.ensures
     ∙ ap (λ (known : Bool). entry_of 16 c.args.log known counter_tag c.args.credential)
     c.is_credential.ensures in
-    let by : is_done entry.answer ≡ true → counter_by c.args.log.state entry.held ≡ get_of c.args.log c.args.credential = read-by counter_by Refused c.args.log (is_credential c.args.credential) counter_tag c.args.credential
+    let by : is_done entry.answer ≡ true → counter_by c.args.log.state entry.held ≡ get_of c.args.log c.args.credential =
+    read-by counter_by Refused c.args.log (is_credential c.args.credential) counter_tag c.args.credential
     entry is-entry in
-    let let-in : (s : State) → c.args.log.state ≡ s → counter_by s entry.held ≡ get_of c.args.log c.args.credential = λ s e. ap (λ (x : State). counter_by x entry.held) (sym e)
+    let let-in : (s : State) → c.args.log.state ≡ s → counter_by s entry.held ≡ get_of c.args.log c.args.credential =
+    λ s e. ap (λ (x : State). counter_by x entry.held) (sym e)
     ∙ by (sym c.is_done.ensures ∙ not-false c.is_done.result c.if-not-is_done.false-raw) in
     let held = entry.held in
     (and_says counter_says (get-says c.args.log c.args.credential))

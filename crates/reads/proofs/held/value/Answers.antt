@@ -22,7 +22,8 @@ returns-then-not-is_done c =
     let entry : Entry = c.enter-e.result in
     let is-entry : entry ≡ entry_of 16 c.args.log (is_value c.args.id) value_tag c.args.id = c.enter-e.ensures
     ∙ ap (λ (known : Bool). entry_of 16 c.args.log known value_tag c.args.id) c.is_value.ensures in
-    let refused : is_done entry.answer ≡ false → Refused entry.answer ≡ value_of c.args.log c.args.id = read-refused number_by Refused c.args.log (is_value c.args.id) value_tag c.args.id entry is-entry in
+    let refused : is_done entry.answer ≡ false → Refused entry.answer ≡ value_of c.args.log c.args.id =
+    read-refused number_by Refused c.args.log (is_value c.args.id) value_tag c.args.id entry is-entry in
     (and_says number_says (value-says c.args.log c.args.id)) (refused (sym c.is_done.ensures ∙ not-true c.is_done.result c.if-not-is_done.true-raw))
 
 -- where nothing is held, and where a record is
@@ -32,8 +33,10 @@ returns-then-not-held c =
     let entry : Entry = c.enter-e.result in
     let is-entry : entry ≡ entry_of 16 c.args.log (is_value c.args.id) value_tag c.args.id = c.enter-e.ensures
     ∙ ap (λ (known : Bool). entry_of 16 c.args.log known value_tag c.args.id) c.is_value.ensures in
-    let by : is_done entry.answer ≡ true → number_by c.args.log.state entry.held ≡ value_of c.args.log c.args.id = read-by number_by Refused c.args.log (is_value c.args.id) value_tag c.args.id entry is-entry in
-    let let-in : (s : State) → c.args.log.state ≡ s → number_by s entry.held ≡ value_of c.args.log c.args.id = λ s e. ap (λ (x : State). number_by x entry.held) (sym e)
+    let by : is_done entry.answer ≡ true → number_by c.args.log.state entry.held ≡ value_of c.args.log c.args.id =
+    read-by number_by Refused c.args.log (is_value c.args.id) value_tag c.args.id entry is-entry in
+    let let-in : (s : State) → c.args.log.state ≡ s → number_by s entry.held ≡ value_of c.args.log c.args.id =
+    λ s e. ap (λ (x : State). number_by x entry.held) (sym e)
     ∙ by (sym c.is_done.ensures ∙ not-false c.is_done.result c.if-not-is_done.false-raw) in
     let held = entry.held in
     (and_says number_says (value-says c.args.log c.args.id))
@@ -46,8 +49,10 @@ returns-in-Unformatted c =
     let entry : Entry = c.enter-e.result in
     let is-entry : entry ≡ entry_of 16 c.args.log (is_value c.args.id) value_tag c.args.id = c.enter-e.ensures
     ∙ ap (λ (known : Bool). entry_of 16 c.args.log known value_tag c.args.id) c.is_value.ensures in
-    let by : is_done entry.answer ≡ true → number_by c.args.log.state entry.held ≡ value_of c.args.log c.args.id = read-by number_by Refused c.args.log (is_value c.args.id) value_tag c.args.id entry is-entry in
-    let let-in : (s : State) → c.args.log.state ≡ s → number_by s entry.held ≡ value_of c.args.log c.args.id = λ s e. ap (λ (x : State). number_by x entry.held) (sym e)
+    let by : is_done entry.answer ≡ true → number_by c.args.log.state entry.held ≡ value_of c.args.log c.args.id =
+    read-by number_by Refused c.args.log (is_value c.args.id) value_tag c.args.id entry is-entry in
+    let let-in : (s : State) → c.args.log.state ≡ s → number_by s entry.held ≡ value_of c.args.log c.args.id =
+    λ s e. ap (λ (x : State). number_by x entry.held) (sym e)
     ∙ by (sym c.is_done.ensures ∙ not-false c.is_done.result c.if-not-is_done.false-raw) in
     (and_says number_says (value-says c.args.log c.args.id)) (let-in _ c.in-Unformatted.is)
 
@@ -57,8 +62,10 @@ returns-in-Failed c =
     let entry : Entry = c.enter-e.result in
     let is-entry : entry ≡ entry_of 16 c.args.log (is_value c.args.id) value_tag c.args.id = c.enter-e.ensures
     ∙ ap (λ (known : Bool). entry_of 16 c.args.log known value_tag c.args.id) c.is_value.ensures in
-    let by : is_done entry.answer ≡ true → number_by c.args.log.state entry.held ≡ value_of c.args.log c.args.id = read-by number_by Refused c.args.log (is_value c.args.id) value_tag c.args.id entry is-entry in
-    let let-in : (s : State) → c.args.log.state ≡ s → number_by s entry.held ≡ value_of c.args.log c.args.id = λ s e. ap (λ (x : State). number_by x entry.held) (sym e)
+    let by : is_done entry.answer ≡ true → number_by c.args.log.state entry.held ≡ value_of c.args.log c.args.id =
+    read-by number_by Refused c.args.log (is_value c.args.id) value_tag c.args.id entry is-entry in
+    let let-in : (s : State) → c.args.log.state ≡ s → number_by s entry.held ≡ value_of c.args.log c.args.id =
+    λ s e. ap (λ (x : State). number_by x entry.held) (sym e)
     ∙ by (sym c.is_done.ensures ∙ not-false c.is_done.result c.if-not-is_done.false-raw) in
     (and_says number_says (value-says c.args.log c.args.id)) (let-in _ c.in-Failed.is)
 
@@ -68,8 +75,10 @@ returns-else-not-held c =
     let entry : Entry = c.enter-e.result in
     let is-entry : entry ≡ entry_of 16 c.args.log (is_value c.args.id) value_tag c.args.id = c.enter-e.ensures
     ∙ ap (λ (known : Bool). entry_of 16 c.args.log known value_tag c.args.id) c.is_value.ensures in
-    let by : is_done entry.answer ≡ true → number_by c.args.log.state entry.held ≡ value_of c.args.log c.args.id = read-by number_by Refused c.args.log (is_value c.args.id) value_tag c.args.id entry is-entry in
-    let let-in : (s : State) → c.args.log.state ≡ s → number_by s entry.held ≡ value_of c.args.log c.args.id = λ s e. ap (λ (x : State). number_by x entry.held) (sym e)
+    let by : is_done entry.answer ≡ true → number_by c.args.log.state entry.held ≡ value_of c.args.log c.args.id =
+    read-by number_by Refused c.args.log (is_value c.args.id) value_tag c.args.id entry is-entry in
+    let let-in : (s : State) → c.args.log.state ≡ s → number_by s entry.held ≡ value_of c.args.log c.args.id =
+    λ s e. ap (λ (x : State). number_by x entry.held) (sym e)
     ∙ by (sym c.is_done.ensures ∙ not-false c.is_done.result c.if-not-is_done.false-raw) in
     let held = entry.held in
     (and_says number_says (value-says c.args.log c.args.id))

@@ -91,8 +91,11 @@ loop-k-preserved-then-replaces c =
     let used : let l = c in all_are 0xFF (slots-of l.loop-k.k) ≡ false = let d = c in sym erased-is ∙ d.if-is_erased.false in
     let record_is : let l = c in decoded seq-of (slots-of l.loop-k.k) ≡ some raw_read = let there = not-false c.decode_from-d.result.some c.if-not-d.false in
     sym decoded-is ∙ (λ i. record { some = there i; raw = raw_read }) in
-    let place_is : c.find-at.result ≡ place_of raw_read.tag raw_read.id held.found = c.find-at.ensures ∙ place_found _ _ _ _ _ _ _ _ held going raw_read.tag raw_read.id in
-    let there-is : c.find-at.result < c.loop-k.count → get_or c.loop-k.table c.find-at.result nowhere ≡ get_or held.found (place_of raw_read.tag raw_read.id held.found) nowhere = λ h. ap₂ (λ (l : List Raw) (n : ℕ). get_or l n nowhere) held.standing place_is
+    let place_is : c.find-at.result ≡ place_of raw_read.tag raw_read.id held.found =
+    c.find-at.ensures ∙ place_found _ _ _ _ _ _ _ _ held going raw_read.tag raw_read.id in
+    let there-is : c.find-at.result < c.loop-k.count → get_or c.loop-k.table c.find-at.result nowhere
+    ≡ get_or held.found (place_of raw_read.tag raw_read.id held.found) nowhere = λ h. ap₂ (λ (l : List Raw) (n : ℕ). get_or l n nowhere) held.standing
+    place_is
     ∙ places_get held.found (place_of raw_read.tag raw_read.id held.found) nowhere (omega (arith, held.size, place_is)) in
     let there = c.if-at-count.true in
     let stands = get_or c.loop-k.table c.find-at.result nowhere in (
@@ -120,8 +123,11 @@ loop-k-preserved-else-replaces c =
     let used : let l = c in all_are 0xFF (slots-of l.loop-k.k) ≡ false = let d = c in sym erased-is ∙ d.if-is_erased.false in
     let record_is : let l = c in decoded seq-of (slots-of l.loop-k.k) ≡ some raw_read = let there = not-false c.decode_from-d.result.some c.if-not-d.false in
     sym decoded-is ∙ (λ i. record { some = there i; raw = raw_read }) in
-    let place_is : c.find-at.result ≡ place_of raw_read.tag raw_read.id held.found = c.find-at.ensures ∙ place_found _ _ _ _ _ _ _ _ held going raw_read.tag raw_read.id in
-    let there-is : c.find-at.result < c.loop-k.count → get_or c.loop-k.table c.find-at.result nowhere ≡ get_or held.found (place_of raw_read.tag raw_read.id held.found) nowhere = λ h. ap₂ (λ (l : List Raw) (n : ℕ). get_or l n nowhere) held.standing place_is
+    let place_is : c.find-at.result ≡ place_of raw_read.tag raw_read.id held.found =
+    c.find-at.ensures ∙ place_found _ _ _ _ _ _ _ _ held going raw_read.tag raw_read.id in
+    let there-is : c.find-at.result < c.loop-k.count → get_or c.loop-k.table c.find-at.result nowhere
+    ≡ get_or held.found (place_of raw_read.tag raw_read.id held.found) nowhere = λ h. ap₂ (λ (l : List Raw) (n : ℕ). get_or l n nowhere) held.standing
+    place_is
     ∙ places_get held.found (place_of raw_read.tag raw_read.id held.found) nowhere (omega (arith, held.size, place_is)) in
     let there = c.if-at-count.true in
     let stands = get_or c.loop-k.table c.find-at.result nowhere in (
@@ -148,7 +154,8 @@ returns-then-count-eq-LIMIT c =
     let used : let l = c in all_are 0xFF (slots-of l.loop-k.k) ≡ false = let d = c in sym erased-is ∙ d.if-is_erased.false in
     let record_is : let l = c in decoded seq-of (slots-of l.loop-k.k) ≡ some raw_read = let there = not-false c.decode_from-d.result.some c.if-not-d.false in
     sym decoded-is ∙ (λ i. record { some = there i; raw = raw_read }) in
-    let place_is : c.find-at.result ≡ place_of raw_read.tag raw_read.id held.found = c.find-at.ensures ∙ place_found _ _ _ _ _ _ _ _ held going raw_read.tag raw_read.id in
+    let place_is : c.find-at.result ≡ place_of raw_read.tag raw_read.id held.found =
+    c.find-at.ensures ∙ place_found _ _ _ _ _ _ _ _ held going raw_read.tag raw_read.id in
     c.unreadable.ensures
     ∙ ap (region_read _ _ _)
     (sym (full _ _ _ _ _ _ _ _ held going used raw_read record_is
@@ -171,7 +178,8 @@ loop-k-preserved c =
     let used : let l = c in all_are 0xFF (slots-of l.loop-k.k) ≡ false = let d = c in sym erased-is ∙ d.if-is_erased.false in
     let record_is : let l = c in decoded seq-of (slots-of l.loop-k.k) ≡ some raw_read = let there = not-false c.decode_from-d.result.some c.if-not-d.false in
     sym decoded-is ∙ (λ i. record { some = there i; raw = raw_read }) in
-    let place_is : c.find-at.result ≡ place_of raw_read.tag raw_read.id held.found = c.find-at.ensures ∙ place_found _ _ _ _ _ _ _ _ held going raw_read.tag raw_read.id in (
+    let place_is : c.find-at.result ≡ place_of raw_read.tag raw_read.id held.found =
+    c.find-at.ensures ∙ place_found _ _ _ _ _ _ _ _ held going raw_read.tag raw_read.id in (
       c.loop-k.invariant.0,
       add _ _ _ _ _ _ _ _ held going used raw_read record_is (omega (arith, place_is, c.if-at-count.false))
           (omega (arith, held.most, c.if-count-eq-LIMIT.false)),

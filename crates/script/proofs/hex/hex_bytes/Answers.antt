@@ -24,13 +24,15 @@ loop-k-init c =
 
 pub shape_of-out-in_default : goal.shape_of-out-in_default
 shape_of-out-in_default c =
-    let room : let s = c.args in s.to + length (bytes_in s.at s.text.now s.to (length s.out.now)) ≤ length s.out.now = let s = c.args in fill-room s.text.now s.at s.to (length s.out.now) (omega arith) in
+    let room : let s = c.args in s.to + length (bytes_in s.at s.text.now s.to (length s.out.now)) ≤ length s.out.now =
+    let s = c.args in fill-room s.text.now s.at s.to (length s.out.now) (omega arith) in
     let long : length c.loop-k.out ≡ length c.args.out.now = same-room room c.loop-k.invariant.1 in
     long
 
 pub returns-in_default : goal.returns-in_default
 returns-in_default c =
-    let room : let s = c.args in s.to + length (bytes_in s.at s.text.now s.to (length s.out.now)) ≤ length s.out.now = let s = c.args in fill-room s.text.now s.at s.to (length s.out.now) (omega arith) in
+    let room : let s = c.args in s.to + length (bytes_in s.at s.text.now s.to (length s.out.now)) ≤ length s.out.now =
+    let s = c.args in fill-room s.text.now s.at s.to (length s.out.now) (omega arith) in
     let Left : List ℕ → Type 0 = λ rest. let s = c.args in
     Begun s.out.now s.to (bytes_in s.at s.text.now s.to (length s.out.now)) rest c.loop-k.out c.loop-k.k in
     let s = c.args in
@@ -46,19 +48,22 @@ overflow_add-from c =
 
 pub overflow_add-k : goal.overflow_add-k
 overflow_add-k c =
-    let room : let s = c.args in s.to + length (bytes_in s.at s.text.now s.to (length s.out.now)) ≤ length s.out.now = let s = c.args in fill-room s.text.now s.at s.to (length s.out.now) (omega arith) in
+    let room : let s = c.args in s.to + length (bytes_in s.at s.text.now s.to (length s.out.now)) ≤ length s.out.now =
+    let s = c.args in fill-room s.text.now s.at s.to (length s.out.now) (omega arith) in
     let long : length c.loop-k.out ≡ length c.args.out.now = same-room room c.loop-k.invariant.1 in
     omega (arith, long)
 
 pub loop-k-smaller : goal.loop-k-smaller
 loop-k-smaller c =
-    let room : let s = c.args in s.to + length (bytes_in s.at s.text.now s.to (length s.out.now)) ≤ length s.out.now = let s = c.args in fill-room s.text.now s.at s.to (length s.out.now) (omega arith) in
+    let room : let s = c.args in s.to + length (bytes_in s.at s.text.now s.to (length s.out.now)) ≤ length s.out.now =
+    let s = c.args in fill-room s.text.now s.at s.to (length s.out.now) (omega arith) in
     let long : length c.loop-k.out ≡ length c.args.out.now = same-room room c.loop-k.invariant.1 in
     omega (arith, long)
 
 pub loop-k-preserved : goal.loop-k-preserved
 loop-k-preserved c =
-    let room : let s = c.args in s.to + length (bytes_in s.at s.text.now s.to (length s.out.now)) ≤ length s.out.now = let s = c.args in fill-room s.text.now s.at s.to (length s.out.now) (omega arith) in
+    let room : let s = c.args in s.to + length (bytes_in s.at s.text.now s.to (length s.out.now)) ≤ length s.out.now =
+    let s = c.args in fill-room s.text.now s.at s.to (length s.out.now) (omega arith) in
     let Left : List ℕ → Type 0 = λ rest. let s = c.args in
     Begun s.out.now s.to (bytes_in s.at s.text.now s.to (length s.out.now)) rest c.loop-k.out c.loop-k.k in
     let long : length c.loop-k.out ≡ length c.args.out.now = same-room room c.loop-k.invariant.1 in
@@ -72,13 +77,15 @@ loop-k-preserved c =
 
 pub shape_of-out : goal.shape_of-out
 shape_of-out c =
-    let room : let s = c.args in s.to + length (bytes_in s.at s.text.now s.to (length s.out.now)) ≤ length s.out.now = let s = c.args in fill-room s.text.now s.at s.to (length s.out.now) (omega arith) in
+    let room : let s = c.args in s.to + length (bytes_in s.at s.text.now s.to (length s.out.now)) ≤ length s.out.now =
+    let s = c.args in fill-room s.text.now s.at s.to (length s.out.now) (omega arith) in
     let long : length c.loop-k.out ≡ length c.args.out.now = same-room room c.loop-k.invariant.1 in
     long
 
 pub returns : goal.returns
 returns c =
-    let room : let s = c.args in s.to + length (bytes_in s.at s.text.now s.to (length s.out.now)) ≤ length s.out.now = let s = c.args in fill-room s.text.now s.at s.to (length s.out.now) (omega arith) in
+    let room : let s = c.args in s.to + length (bytes_in s.at s.text.now s.to (length s.out.now)) ≤ length s.out.now =
+    let s = c.args in fill-room s.text.now s.at s.to (length s.out.now) (omega arith) in
     let Left : List ℕ → Type 0 = λ rest. let s = c.args in
     Begun s.out.now s.to (bytes_in s.at s.text.now s.to (length s.out.now)) rest c.loop-k.out c.loop-k.k in
     let long : length c.loop-k.out ≡ length c.args.out.now = same-room room c.loop-k.invariant.1 in

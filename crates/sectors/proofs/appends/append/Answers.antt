@@ -32,8 +32,10 @@ commit-requires c =
       head = c.try_slots-w.result.head;
       flash = flash_with c.try_slots-w.new.image c.try_slots-w.result.used (trying cut).flash.cut;
     } in
-    let tried-is : (cut : Bool) → trying cut ≡ shown_of cut = λ cut. tries_are (trying cut) c.try_slots-w.result c.try_slots-w.new.image (rw c.encode.ensures at (c.try_slots-w.ensures cut)) in
-    let cheap : let u = c.args.used in (c.try_slots-w.result.used.programmed ≤ u.programmed + 48) × (c.try_slots-w.result.used.erased ≤ u.erased) = let a = c.args in
+    let tried-is : (cut : Bool) → trying cut ≡ shown_of cut =
+    λ cut. tries_are (trying cut) c.try_slots-w.result c.try_slots-w.new.image (rw c.encode.ensures at (c.try_slots-w.ensures cut)) in
+    let cheap : let u = c.args.used in (c.try_slots-w.result.used.programmed ≤ u.programmed + 48) × (c.try_slots-w.result.used.erased ≤ u.erased) =
+    let a = c.args in
     let most = tries-within 3 a.sector a.head (slot_of a.seq a.«record») WriteError (flash-of true) in (
       omega (arith, most.programmed, ap (λ (o : SlotTries). o.flash.programmed) (tried-is true)),
       omega (arith, most.erased, ap (λ (o : SlotTries). o.flash.erased) (tried-is true)),
@@ -61,7 +63,8 @@ returns-then-w c =
       head = c.try_slots-w.result.head;
       flash = flash_with c.try_slots-w.new.image c.try_slots-w.result.used (trying cut).flash.cut;
     } in
-    let tried-is : (cut : Bool) → trying cut ≡ shown_of cut = λ cut. tries_are (trying cut) c.try_slots-w.result c.try_slots-w.new.image (rw c.encode.ensures at (c.try_slots-w.ensures cut)) in
+    let tried-is : (cut : Bool) → trying cut ≡ shown_of cut =
+    λ cut. tries_are (trying cut) c.try_slots-w.result c.try_slots-w.new.image (rw c.encode.ensures at (c.try_slots-w.ensures cut)) in
     λ cut.
     let a = c.args in
     rw
@@ -80,7 +83,8 @@ returns c =
       head = c.try_slots-w.result.head;
       flash = flash_with c.try_slots-w.new.image c.try_slots-w.result.used (trying cut).flash.cut;
     } in
-    let tried-is : (cut : Bool) → trying cut ≡ shown_of cut = λ cut. tries_are (trying cut) c.try_slots-w.result c.try_slots-w.new.image (rw c.encode.ensures at (c.try_slots-w.ensures cut)) in
+    let tried-is : (cut : Bool) → trying cut ≡ shown_of cut =
+    λ cut. tries_are (trying cut) c.try_slots-w.result c.try_slots-w.new.image (rw c.encode.ensures at (c.try_slots-w.ensures cut)) in
     λ cut.
     let a = c.args in
     rw

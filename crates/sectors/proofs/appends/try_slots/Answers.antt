@@ -33,8 +33,11 @@ pub returns-then-is_done : goal.returns-then-is_done
 returns-then-is_done c =
     let flash-of : Bool → Flash = λ now. flash_with c.loop-left.image c.loop-left.u now in
     let turn : Bool → Stepped = λ now. program c.args.sector c.loop-left.h c.args.bytes (flash-of now) in
-    let turn_is : (now : Bool) → turn now ≡ record { answer = c.program-s.result.answer; flash = flash_with c.program-s.new.image c.program-s.result.used (turn now).flash.cut } = λ now. step_is (turn now) c.program-s.result c.program-s.new.image (c.program-s.ensures now) in
-    let answer-is : (now : Bool) → is_done (turn now).answer ≡ c.is_done.result = λ now. ap (λ (o : Stepped). is_done o.answer) (turn_is now) ∙ sym c.is_done.ensures in
+    let turn_is : (now : Bool) → turn now
+    ≡ record { answer = c.program-s.result.answer; flash = flash_with c.program-s.new.image c.program-s.result.used (turn now).flash.cut } = λ now.
+    step_is (turn now) c.program-s.result c.program-s.new.image (c.program-s.ensures now) in
+    let answer-is : (now : Bool) → is_done (turn now).answer ≡ c.is_done.result =
+    λ now. ap (λ (o : Stepped). is_done o.answer) (turn_is now) ∙ sym c.is_done.ensures in
     λ cut.
     let now = (c.loop-left.invariant.4 cut).0 in
     let done = answer-is now ∙ c.if-is_done.true in
@@ -47,9 +50,13 @@ pub loop-left-preserved : goal.loop-left-preserved
 loop-left-preserved c =
     let flash-of : Bool → Flash = λ now. flash_with c.loop-left.image c.loop-left.u now in
     let turn : Bool → Stepped = λ now. program c.args.sector c.loop-left.h c.args.bytes (flash-of now) in
-    let turn_is : (now : Bool) → turn now ≡ record { answer = c.program-s.result.answer; flash = flash_with c.program-s.new.image c.program-s.result.used (turn now).flash.cut } = λ now. step_is (turn now) c.program-s.result c.program-s.new.image (c.program-s.ensures now) in
-    let answer-is : (now : Bool) → is_done (turn now).answer ≡ c.is_done.result = λ now. ap (λ (o : Stepped). is_done o.answer) (turn_is now) ∙ sym c.is_done.ensures in
-    let cheap : c.program-s.result.used.programmed ≤ c.loop-left.u.programmed + 16 = let most = program-within c.args.sector c.loop-left.h c.args.bytes (flash-of true) in
+    let turn_is : (now : Bool) → turn now
+    ≡ record { answer = c.program-s.result.answer; flash = flash_with c.program-s.new.image c.program-s.result.used (turn now).flash.cut } = λ now.
+    step_is (turn now) c.program-s.result c.program-s.new.image (c.program-s.ensures now) in
+    let answer-is : (now : Bool) → is_done (turn now).answer ≡ c.is_done.result =
+    λ now. ap (λ (o : Stepped). is_done o.answer) (turn_is now) ∙ sym c.is_done.ensures in
+    let cheap : c.program-s.result.used.programmed ≤ c.loop-left.u.programmed + 16 =
+    let most = program-within c.args.sector c.loop-left.h c.args.bytes (flash-of true) in
     omega (arith, most.programmed, ap (λ (o : Stepped). o.flash.programmed) (turn_is true)) in
     let a = c.args in (
       omega (arith, c.loop-left.invariant.0, c.if-h-eq-HEAD_MAX.false),

@@ -76,8 +76,14 @@ returns-then-is_done c =
     (omega (arith, c.requires.0.few, c.well_formed.1.1.1.1.1.1.0.1.0.1)) in
     let flash-of : Bool → Flash = λ now. flash_with c.loop-left.image c.loop-left.u now in
     let turn : Bool → Stepped = λ now. write_sector c.loop-left.s c.loop-left.next records-of (flash-of now) in
-    let turn_is : (now : Bool) → turn now ≡ record { answer = c.write_sector-w.result.answer; flash = flash_with c.write_sector-w.new.image c.write_sector-w.result.used (turn now).flash.cut } = λ now. step_is (turn now) c.write_sector-w.result c.write_sector-w.new.image (c.write_sector-w.ensures now) in
-    let answer-is : (now : Bool) → is_done (turn now).answer ≡ c.is_done.result = λ now. ap (λ (o : Stepped). is_done o.answer) (turn_is now) ∙ sym c.is_done.ensures in
+    let turn_is : (now : Bool) → turn now
+    ≡ record {
+      answer = c.write_sector-w.result.answer;
+      flash = flash_with c.write_sector-w.new.image c.write_sector-w.result.used
+          (turn now).flash.cut;
+    } = λ now. step_is (turn now) c.write_sector-w.result c.write_sector-w.new.image (c.write_sector-w.ensures now) in
+    let answer-is : (now : Bool) → is_done (turn now).answer ≡ c.is_done.result =
+    λ now. ap (λ (o : Stepped). is_done o.answer) (turn_is now) ∙ sym c.is_done.ensures in
     λ cut.
     let l = c in
     let now = (l.loop-left.invariant.6 cut).0 in
@@ -97,9 +103,16 @@ loop-left-preserved c =
     (omega (arith, c.requires.0.few, c.well_formed.1.1.1.1.1.1.0.1.0.1)) in
     let flash-of : Bool → Flash = λ now. flash_with c.loop-left.image c.loop-left.u now in
     let turn : Bool → Stepped = λ now. write_sector c.loop-left.s c.loop-left.next records-of (flash-of now) in
-    let turn_is : (now : Bool) → turn now ≡ record { answer = c.write_sector-w.result.answer; flash = flash_with c.write_sector-w.new.image c.write_sector-w.result.used (turn now).flash.cut } = λ now. step_is (turn now) c.write_sector-w.result c.write_sector-w.new.image (c.write_sector-w.ensures now) in
-    let answer-is : (now : Bool) → is_done (turn now).answer ≡ c.is_done.result = λ now. ap (λ (o : Stepped). is_done o.answer) (turn_is now) ∙ sym c.is_done.ensures in
-    let cheap : let l = c in (c.write_sector-w.result.used.programmed ≤ l.loop-left.u.programmed + 16 * (limit + 1)) × (c.write_sector-w.result.used.erased ≤ l.loop-left.u.erased + 4096) = let l = c in
+    let turn_is : (now : Bool) → turn now
+    ≡ record {
+      answer = c.write_sector-w.result.answer;
+      flash = flash_with c.write_sector-w.new.image c.write_sector-w.result.used
+          (turn now).flash.cut;
+    } = λ now. step_is (turn now) c.write_sector-w.result c.write_sector-w.new.image (c.write_sector-w.ensures now) in
+    let answer-is : (now : Bool) → is_done (turn now).answer ≡ c.is_done.result =
+    λ now. ap (λ (o : Stepped). is_done o.answer) (turn_is now) ∙ sym c.is_done.ensures in
+    let cheap : let l = c in (c.write_sector-w.result.used.programmed ≤ l.loop-left.u.programmed + 16 * (limit + 1))
+    × (c.write_sector-w.result.used.erased ≤ l.loop-left.u.erased + 4096) = let l = c in
     let most = sector-within l.loop-left.s l.loop-left.next records-of (flash-of true) in (
       omega (arith, most.programmed, records-long, l.requires.0.few, ap (λ (o : Stepped). o.flash.programmed) (turn_is true)),
       omega (arith, most.erased, ap (λ (o : Stepped). o.flash.erased) (turn_is true)),

@@ -42,7 +42,8 @@ returns-then-not-is_done c =
     ∙ sealed_from a.seq r
     ∙ ap (slot_of a.seq) (sym (get_or-take a.count a.table c.loop-i.i nowhere (omega arith))) in
     rw bytes at (c.program-s.ensures now) in
-    let answer-is : (now : Bool) → is_done (turn now).answer ≡ c.is_done.result = λ now. sym (ap (λ (r : Step). is_done r.answer) (stepped now).shown) ∙ sym c.is_done.ensures in
+    let answer-is : (now : Bool) → is_done (turn now).answer ≡ c.is_done.result =
+    λ now. sym (ap (λ (r : Step). is_done r.answer) (stepped now).shown) ∙ sym c.is_done.ensures in
     λ cut.
     let now = (c.loop-i.invariant.4 cut).0 in
     let failed = answer-is now ∙ not-true c.is_done.result c.if-not-is_done.true-raw in
@@ -64,7 +65,8 @@ loop-i-preserved c =
     ∙ sealed_from a.seq r
     ∙ ap (slot_of a.seq) (sym (get_or-take a.count a.table c.loop-i.i nowhere (omega arith))) in
     rw bytes at (c.program-s.ensures now) in
-    let answer-is : (now : Bool) → is_done (turn now).answer ≡ c.is_done.result = λ now. sym (ap (λ (r : Step). is_done r.answer) (stepped now).shown) ∙ sym c.is_done.ensures in
+    let answer-is : (now : Bool) → is_done (turn now).answer ≡ c.is_done.result =
+    λ now. sym (ap (λ (r : Step). is_done r.answer) (stepped now).shown) ∙ sym c.is_done.ensures in
     let cheap : c.program-s.result.used.programmed ≤ c.args.used.programmed + 16 * (c.loop-i.i + 1) = let a = c.args in
     let same = ap (λ (r : Step). r.used.programmed) (stepped true).shown in
     let most =

@@ -20,8 +20,11 @@ returns-then-not-is_done c =
     let first-flash : Bool → Flash = λ cut. flash_with c.args.image.now c.args.used cut in
     let records-of : List Raw = take c.args.count c.args.table in
     let erasing : Bool → Stepped = λ cut. erase c.args.sector (first-flash cut) in
-    let erased-is : (cut : Bool) → erasing cut ≡ record { answer = c.erase-e.result.answer; flash = flash_with c.erase-e.new.image c.erase-e.result.used (erasing cut).flash.cut } = λ cut. step_is (erasing cut) c.erase-e.result c.erase-e.new.image (c.erase-e.ensures cut) in
-    let erase-answer : (cut : Bool) → is_done (erasing cut).answer ≡ c.is_done.result = λ cut. ap (λ (o : Stepped). is_done o.answer) (erased-is cut) ∙ sym c.is_done.ensures in
+    let erased-is : (cut : Bool) → erasing cut
+    ≡ record { answer = c.erase-e.result.answer; flash = flash_with c.erase-e.new.image c.erase-e.result.used (erasing cut).flash.cut } = λ cut.
+    step_is (erasing cut) c.erase-e.result c.erase-e.new.image (c.erase-e.ensures cut) in
+    let erase-answer : (cut : Bool) → is_done (erasing cut).answer ≡ c.is_done.result =
+    λ cut. ap (λ (o : Stepped). is_done o.answer) (erased-is cut) ∙ sym c.is_done.ensures in
     λ cut.
     let a = c.args in
     let failed = erase-answer cut ∙ not-true c.is_done.result c.if-not-is_done.true-raw in
@@ -31,7 +34,9 @@ pub write_records-w-requires : goal.write_records-w-requires
 write_records-w-requires c =
     let first-flash : Bool → Flash = λ cut. flash_with c.args.image.now c.args.used cut in
     let erasing : Bool → Stepped = λ cut. erase c.args.sector (first-flash cut) in
-    let erased-is : (cut : Bool) → erasing cut ≡ record { answer = c.erase-e.result.answer; flash = flash_with c.erase-e.new.image c.erase-e.result.used (erasing cut).flash.cut } = λ cut. step_is (erasing cut) c.erase-e.result c.erase-e.new.image (c.erase-e.ensures cut) in
+    let erased-is : (cut : Bool) → erasing cut
+    ≡ record { answer = c.erase-e.result.answer; flash = flash_with c.erase-e.new.image c.erase-e.result.used (erasing cut).flash.cut } = λ cut.
+    step_is (erasing cut) c.erase-e.result c.erase-e.new.image (c.erase-e.ensures cut) in
     let erase-cheap : c.erase-e.result.used.programmed ≤ c.args.used.programmed = let w = (erase-within c.args.sector (first-flash true)).programmed in
     omega (arith, w, ap (λ (o : Stepped). o.flash.programmed) (erased-is true)) in
     (c.requires.0, rw c.erase-e.auto.image c.requires.1, omega (arith, erase-cheap, c.requires.2))
@@ -41,12 +46,22 @@ returns-then-not-is_done-2 c =
     let first-flash : Bool → Flash = λ cut. flash_with c.args.image.now c.args.used cut in
     let records-of : List Raw = take c.args.count c.args.table in
     let erasing : Bool → Stepped = λ cut. erase c.args.sector (first-flash cut) in
-    let erased-is : (cut : Bool) → erasing cut ≡ record { answer = c.erase-e.result.answer; flash = flash_with c.erase-e.new.image c.erase-e.result.used (erasing cut).flash.cut } = λ cut. step_is (erasing cut) c.erase-e.result c.erase-e.new.image (c.erase-e.ensures cut) in
+    let erased-is : (cut : Bool) → erasing cut
+    ≡ record { answer = c.erase-e.result.answer; flash = flash_with c.erase-e.new.image c.erase-e.result.used (erasing cut).flash.cut } = λ cut.
+    step_is (erasing cut) c.erase-e.result c.erase-e.new.image (c.erase-e.ensures cut) in
     let filling : Bool → Stepped = λ cut. filled c.args.sector c.args.seq records-of (first-flash cut) in
-    let filled-shown : (cut : Bool) → ShowsStep (filling cut) c.write_records-w.result c.write_records-w.new.image = λ cut. rw (ap (λ (x : Stepped). x.flash) (sym (erased-is cut))) at (c.write_records-w.ensures (erasing cut).flash.cut) in
-    let filled_is : (cut : Bool) → filling cut ≡ record { answer = c.write_records-w.result.answer; flash = flash_with c.write_records-w.new.image c.write_records-w.result.used (filling cut).flash.cut } = λ cut. step_is (filling cut) c.write_records-w.result c.write_records-w.new.image (filled-shown cut) in
-    let erase-answer : (cut : Bool) → is_done (erasing cut).answer ≡ c.is_done.result = λ cut. ap (λ (o : Stepped). is_done o.answer) (erased-is cut) ∙ sym c.is_done.ensures in
-    let fill-answer : (cut : Bool) → is_done (filling cut).answer ≡ c.is_done-2.result = λ cut. ap (λ (o : Stepped). is_done o.answer) (filled_is cut) ∙ sym c.is_done-2.ensures in
+    let filled-shown : (cut : Bool) → ShowsStep (filling cut) c.write_records-w.result c.write_records-w.new.image =
+    λ cut. rw (ap (λ (x : Stepped). x.flash) (sym (erased-is cut))) at (c.write_records-w.ensures (erasing cut).flash.cut) in
+    let filled_is : (cut : Bool) → filling cut
+    ≡ record {
+      answer = c.write_records-w.result.answer;
+      flash = flash_with c.write_records-w.new.image c.write_records-w.result.used
+          (filling cut).flash.cut;
+    } = λ cut. step_is (filling cut) c.write_records-w.result c.write_records-w.new.image (filled-shown cut) in
+    let erase-answer : (cut : Bool) → is_done (erasing cut).answer ≡ c.is_done.result =
+    λ cut. ap (λ (o : Stepped). is_done o.answer) (erased-is cut) ∙ sym c.is_done.ensures in
+    let fill-answer : (cut : Bool) → is_done (filling cut).answer ≡ c.is_done-2.result =
+    λ cut. ap (λ (o : Stepped). is_done o.answer) (filled_is cut) ∙ sym c.is_done-2.ensures in
     let erase-done : (cut : Bool) → is_done (erasing cut).answer ≡ true = λ cut. erase-answer cut ∙ not-false c.is_done.result c.if-not-is_done.false-raw in
     λ cut.
     let a = c.args in
@@ -58,10 +73,18 @@ program-requires c =
     let first-flash : Bool → Flash = λ cut. flash_with c.args.image.now c.args.used cut in
     let records-of : List Raw = take c.args.count c.args.table in
     let erasing : Bool → Stepped = λ cut. erase c.args.sector (first-flash cut) in
-    let erased-is : (cut : Bool) → erasing cut ≡ record { answer = c.erase-e.result.answer; flash = flash_with c.erase-e.new.image c.erase-e.result.used (erasing cut).flash.cut } = λ cut. step_is (erasing cut) c.erase-e.result c.erase-e.new.image (c.erase-e.ensures cut) in
+    let erased-is : (cut : Bool) → erasing cut
+    ≡ record { answer = c.erase-e.result.answer; flash = flash_with c.erase-e.new.image c.erase-e.result.used (erasing cut).flash.cut } = λ cut.
+    step_is (erasing cut) c.erase-e.result c.erase-e.new.image (c.erase-e.ensures cut) in
     let filling : Bool → Stepped = λ cut. filled c.args.sector c.args.seq records-of (first-flash cut) in
-    let filled-shown : (cut : Bool) → ShowsStep (filling cut) c.write_records-w.result c.write_records-w.new.image = λ cut. rw (ap (λ (x : Stepped). x.flash) (sym (erased-is cut))) at (c.write_records-w.ensures (erasing cut).flash.cut) in
-    let filled_is : (cut : Bool) → filling cut ≡ record { answer = c.write_records-w.result.answer; flash = flash_with c.write_records-w.new.image c.write_records-w.result.used (filling cut).flash.cut } = λ cut. step_is (filling cut) c.write_records-w.result c.write_records-w.new.image (filled-shown cut) in
+    let filled-shown : (cut : Bool) → ShowsStep (filling cut) c.write_records-w.result c.write_records-w.new.image =
+    λ cut. rw (ap (λ (x : Stepped). x.flash) (sym (erased-is cut))) at (c.write_records-w.ensures (erasing cut).flash.cut) in
+    let filled_is : (cut : Bool) → filling cut
+    ≡ record {
+      answer = c.write_records-w.result.answer;
+      flash = flash_with c.write_records-w.new.image c.write_records-w.result.used
+          (filling cut).flash.cut;
+    } = λ cut. step_is (filling cut) c.write_records-w.result c.write_records-w.new.image (filled-shown cut) in
     let fill-cheap : c.write_records-w.result.used.programmed ≤ c.args.used.programmed + 16 * c.args.count = let most =
     (records_within c.args.sector c.args.seq 1 records-of
     (wiped c.args.sector c.args.seq records-of (first-flash true))).programmed in
@@ -80,12 +103,22 @@ returns c =
     let first-flash : Bool → Flash = λ cut. flash_with c.args.image.now c.args.used cut in
     let records-of : List Raw = take c.args.count c.args.table in
     let erasing : Bool → Stepped = λ cut. erase c.args.sector (first-flash cut) in
-    let erased-is : (cut : Bool) → erasing cut ≡ record { answer = c.erase-e.result.answer; flash = flash_with c.erase-e.new.image c.erase-e.result.used (erasing cut).flash.cut } = λ cut. step_is (erasing cut) c.erase-e.result c.erase-e.new.image (c.erase-e.ensures cut) in
+    let erased-is : (cut : Bool) → erasing cut
+    ≡ record { answer = c.erase-e.result.answer; flash = flash_with c.erase-e.new.image c.erase-e.result.used (erasing cut).flash.cut } = λ cut.
+    step_is (erasing cut) c.erase-e.result c.erase-e.new.image (c.erase-e.ensures cut) in
     let filling : Bool → Stepped = λ cut. filled c.args.sector c.args.seq records-of (first-flash cut) in
-    let filled-shown : (cut : Bool) → ShowsStep (filling cut) c.write_records-w.result c.write_records-w.new.image = λ cut. rw (ap (λ (x : Stepped). x.flash) (sym (erased-is cut))) at (c.write_records-w.ensures (erasing cut).flash.cut) in
-    let filled_is : (cut : Bool) → filling cut ≡ record { answer = c.write_records-w.result.answer; flash = flash_with c.write_records-w.new.image c.write_records-w.result.used (filling cut).flash.cut } = λ cut. step_is (filling cut) c.write_records-w.result c.write_records-w.new.image (filled-shown cut) in
-    let erase-answer : (cut : Bool) → is_done (erasing cut).answer ≡ c.is_done.result = λ cut. ap (λ (o : Stepped). is_done o.answer) (erased-is cut) ∙ sym c.is_done.ensures in
-    let fill-answer : (cut : Bool) → is_done (filling cut).answer ≡ c.is_done-2.result = λ cut. ap (λ (o : Stepped). is_done o.answer) (filled_is cut) ∙ sym c.is_done-2.ensures in
+    let filled-shown : (cut : Bool) → ShowsStep (filling cut) c.write_records-w.result c.write_records-w.new.image =
+    λ cut. rw (ap (λ (x : Stepped). x.flash) (sym (erased-is cut))) at (c.write_records-w.ensures (erasing cut).flash.cut) in
+    let filled_is : (cut : Bool) → filling cut
+    ≡ record {
+      answer = c.write_records-w.result.answer;
+      flash = flash_with c.write_records-w.new.image c.write_records-w.result.used
+          (filling cut).flash.cut;
+    } = λ cut. step_is (filling cut) c.write_records-w.result c.write_records-w.new.image (filled-shown cut) in
+    let erase-answer : (cut : Bool) → is_done (erasing cut).answer ≡ c.is_done.result =
+    λ cut. ap (λ (o : Stepped). is_done o.answer) (erased-is cut) ∙ sym c.is_done.ensures in
+    let fill-answer : (cut : Bool) → is_done (filling cut).answer ≡ c.is_done-2.result =
+    λ cut. ap (λ (o : Stepped). is_done o.answer) (filled_is cut) ∙ sym c.is_done-2.ensures in
     let erase-done : (cut : Bool) → is_done (erasing cut).answer ≡ true = λ cut. erase-answer cut ∙ not-false c.is_done.result c.if-not-is_done.false-raw in
     λ cut.
     let a = c.args in

@@ -42,7 +42,9 @@ slice_bounds-put_bytes-end c =
 
 pub put_bytes-requires : goal.put_bytes-requires
 put_bytes-requires c =
-    let text-is : let l = c.loop-rest in take (20 - (l.first - 1)) (drop (l.first - 1) (set l.places (l.first - 1) (48 + l.rest))) ≡ decimal c.args.x = let l = c.loop-rest in spell_end c.args.x l.places l.first l.rest l.invariant (omega arith) in
+    let text-is : let l =
+    c.loop-rest in take (20 - (l.first - 1)) (drop (l.first - 1) (set l.places (l.first - 1) (48 + l.rest)))
+    ≡ decimal c.args.x = let l = c.loop-rest in spell_end c.args.x l.places l.first l.rest l.invariant (omega arith) in
     rw text-is c.requires
 
 pub shape_of-out : goal.shape_of-out
@@ -50,7 +52,9 @@ shape_of-out c = c.put_bytes.auto.out
 
 pub returns : goal.returns
 returns c =
-    let text-is : let l = c.loop-rest in take (20 - (l.first - 1)) (drop (l.first - 1) (set l.places (l.first - 1) (48 + l.rest))) ≡ decimal c.args.x = let l = c.loop-rest in spell_end c.args.x l.places l.first l.rest l.invariant (omega arith) in
+    let text-is : let l =
+    c.loop-rest in take (20 - (l.first - 1)) (drop (l.first - 1) (set l.places (l.first - 1) (48 + l.rest)))
+    ≡ decimal c.args.x = let l = c.loop-rest in spell_end c.args.x l.places l.first l.rest l.invariant (omega arith) in
     let a = c.args in
     subst (λ (t : List ℕ). Puts a.out.now a.at t c.put_bytes.new.out c.put_bytes.result)
     text-is c.put_bytes.ensures

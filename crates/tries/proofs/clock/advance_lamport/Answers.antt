@@ -16,7 +16,9 @@ use Rattle.tries.proofs.clock.advance_lamport.Goals as goal
 
 pub perform-requires : goal.perform-requires
 perform-requires c =
-    let is-entry : let a = c.args in c.enter-e.result ≡ entry_of (sectors_in (length a.image.now)) a.log true value_tag lamport = let a = c.args in c.enter-e.ensures ∙ ap (λ (n : ℕ). entry_of n a.log true value_tag lamport) c.sectors-n.ensures in
+    let is-entry : let a =
+    c.args in c.enter-e.result ≡ entry_of (sectors_in (length a.image.now)) a.log true value_tag lamport = let a = c.args in c.enter-e.ensures
+    ∙ ap (λ (n : ℕ). entry_of n a.log true value_tag lamport) c.sectors-n.ensures in
     let a = c.args in
     let x = c.enter-e.result in
     call-ready a.image.now a.log a.plan true value_tag lamport x is-entry
@@ -29,7 +31,9 @@ perform-requires c =
 pub returns : goal.returns
 unfolding advance_of
 returns c =
-    let is-entry : let a = c.args in c.enter-e.result ≡ entry_of (sectors_in (length a.image.now)) a.log true value_tag lamport = let a = c.args in c.enter-e.ensures ∙ ap (λ (n : ℕ). entry_of n a.log true value_tag lamport) c.sectors-n.ensures in
+    let is-entry : let a =
+    c.args in c.enter-e.result ≡ entry_of (sectors_in (length a.image.now)) a.log true value_tag lamport = let a = c.args in c.enter-e.ensures
+    ∙ ap (λ (n : ℕ). entry_of n a.log true value_tag lamport) c.sectors-n.ensures in
     let a = c.args in
     call_meets a.image.now a.log a.plan true value_tag lamport c.enter-e.result is-entry
     (λ (held : OptRaw) (room : Bool). advance_decision held room a.seen) c.sectors-n.result c.unused.result

@@ -25,7 +25,9 @@ returns-then-not-held c =
     (c.counter_record.ensures
     ∙ ap (counter_record a.credential)
     (c.after_reset-new.ensures ∙ ap (λ (s : CounterState). reset_of s a.tries) c.start-s.ensures)) in
-    let by : (b : Bool) → (c.args.held.some && eqb (remaining_of counter) c.args.tries) ≡ b → set_decision c.args.held c.args.room c.args.credential c.args.tries ≡ pick b (give 0) written = λ b e. ap (λ (x : Bool). pick x (give 0) written) e in
+    let by : (b : Bool) → (c.args.held.some && eqb (remaining_of counter) c.args.tries) ≡ b
+    → set_decision c.args.held c.args.room c.args.credential c.args.tries
+    ≡ pick b (give 0) written = λ b e. ap (λ (x : Bool). pick x (give 0) written) e in
     let a = c.args in
     written_is ∙ sym (by _ (ap (λ (b : Bool). b && eqb (remaining_of counter) a.tries) (not-true a.held.some c.if-not-held.true)))
 
@@ -34,8 +36,11 @@ unfolding set_decision
 returns-then-remaining-tries c =
     let counter : CounterState = start_of c.args.held c.args.tries in
     let written : Decision = let a = c.args in write a.room (counter_record a.credential (reset_of counter a.tries)) 0 in
-    let by : (b : Bool) → (c.args.held.some && eqb (remaining_of counter) c.args.tries) ≡ b → set_decision c.args.held c.args.room c.args.credential c.args.tries ≡ pick b (give 0) written = λ b e. ap (λ (x : Bool). pick x (give 0) written) e in
-    let left : (b : Bool) → let w = c in let a = w.args in eqb c.remaining.result a.tries ≡ b → (a.held.some && eqb (remaining_of counter) a.tries) ≡ b = λ b e. let w = c in
+    let by : (b : Bool) → (c.args.held.some && eqb (remaining_of counter) c.args.tries) ≡ b
+    → set_decision c.args.held c.args.room c.args.credential c.args.tries
+    ≡ pick b (give 0) written = λ b e. ap (λ (x : Bool). pick x (give 0) written) e in
+    let left : (b : Bool) → let w =
+    c in let a = w.args in eqb c.remaining.result a.tries ≡ b → (a.held.some && eqb (remaining_of counter) a.tries) ≡ b = λ b e. let w = c in
     let a = w.args in
     let m = w in
     ap (λ (x : Bool). x && eqb (remaining_of counter) a.tries) (not-false a.held.some c.if-not-held.false)
@@ -54,8 +59,11 @@ returns c =
     (c.counter_record.ensures
     ∙ ap (counter_record a.credential)
     (r.after_reset-new.ensures ∙ ap (λ (s : CounterState). reset_of s a.tries) r.start-s.ensures)) in
-    let by : (b : Bool) → (c.args.held.some && eqb (remaining_of counter) c.args.tries) ≡ b → set_decision c.args.held c.args.room c.args.credential c.args.tries ≡ pick b (give 0) written = λ b e. ap (λ (x : Bool). pick x (give 0) written) e in
-    let left : (b : Bool) → let w = c in let a = w.args in eqb c.remaining.result a.tries ≡ b → (a.held.some && eqb (remaining_of counter) a.tries) ≡ b = λ b e. let w = c in
+    let by : (b : Bool) → (c.args.held.some && eqb (remaining_of counter) c.args.tries) ≡ b
+    → set_decision c.args.held c.args.room c.args.credential c.args.tries
+    ≡ pick b (give 0) written = λ b e. ap (λ (x : Bool). pick x (give 0) written) e in
+    let left : (b : Bool) → let w =
+    c in let a = w.args in eqb c.remaining.result a.tries ≡ b → (a.held.some && eqb (remaining_of counter) a.tries) ≡ b = λ b e. let w = c in
     let a = w.args in
     let m = w in
     ap (λ (x : Bool). x && eqb (remaining_of counter) a.tries) (not-false a.held.some c.if-not-held.false)

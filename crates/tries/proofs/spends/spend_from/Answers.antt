@@ -24,7 +24,8 @@ returns-then-before-eq0 c =
 pub returns-in-Refused : goal.returns-in-Refused
 unfolding spend_from
 returns-in-Refused c =
-    let spent : (x : Next) → c.after_failure.result ≡ x → let a = c.args in spent_by a.room a.credential c.remaining-before.result x ≡ spend_from a.s a.room a.credential = λ x e. let a = c.args in
+    let spent : (x : Next) → c.after_failure.result ≡ x → let a =
+    c.args in spent_by a.room a.credential c.remaining-before.result x ≡ spend_from a.s a.room a.credential = λ x e. let a = c.args in
     ap₂ (λ (n : ℕ) (y : Next). spent_by a.room a.credential n y) c.remaining-before.ensures (sym e ∙ c.after_failure.ensures.0)
     ∙ sym
     (ap (λ (b : Bool). pick b (give 0) (spent_by a.room a.credential (remaining_of a.s) (failed_of a.s)))
@@ -34,7 +35,8 @@ returns-in-Refused c =
 pub returns-in-State : goal.returns-in-State
 unfolding spend_from
 returns-in-State c =
-    let spent : (x : Next) → c.after_failure.result ≡ x → let a = c.args in spent_by a.room a.credential c.remaining-before.result x ≡ spend_from a.s a.room a.credential = λ x e. let r = c in
+    let spent : (x : Next) → c.after_failure.result ≡ x → let a =
+    c.args in spent_by a.room a.credential c.remaining-before.result x ≡ spend_from a.s a.room a.credential = λ x e. let r = c in
     let a = r.args in
     ap₂ (λ (n : ℕ) (y : Next). spent_by a.room a.credential n y) r.remaining-before.ensures (sym e ∙ c.after_failure.ensures.0)
     ∙ sym
