@@ -1,8 +1,12 @@
 -- `script::decimals::number` meets its contract.
 use mathlib.Core.Path.{◌≡◌, sym, ap, ap₂, ◌∙◌}
-use Prim.Native.Nat.{◌+◌}
+use mathlib.Core.List.{List}
+use Prim.Native.Nat.{ℕ, ◌+◌, ◌-◌}
+use lib.ListN.{get_or, take, drop}
 use native.Mathlib.Omega.{arith}
 use borrow.Author.Tests.{eq-eqb, ne_eqb}
+use Rattle.script.specs.declared.Value.{Value}
+use Rattle.script.specs.Words.{end_of}
 use Rattle.script.specs.Decimals.{amount_of, taken_at, number_at}
 use Rattle.script.proofs.WordsEnds.{end_within, word_part, no_space}
 use Rattle.script.proofs.WordsBehind.{number-not, number-here}
@@ -19,18 +23,20 @@ slice_bounds-amount-end c =
     let s = c.args in
     omega (arith, end_within (s.at + 1) s.text.now c.end-to.result c.end-to.ensures (omega arith))
 
+-- the number of this word, with the place where it ends, is the one behind the space
+taken_here : (most at : ℕ) (text : List ℕ) (to : ℕ) (v : Value) → get_or text at 0 ≡ 32 → to ≡ end_of 32 (at + 1) text
+    → v ≡ amount_of most (take (to - (at + 1)) (drop (at + 1) text)) → taken_at to v ≡ number_at most at text
+taken_here most at text to v h e w =
+    ap₂ taken_at e (w ∙ ap (amount_of most) (word_part (at + 1) text to e)) ∙ sym (number-here most at text (eq-eqb _ _ h))
+
 pub returns-in-Refused : goal.returns-in-Refused
 returns-in-Refused c =
-    let taken_here : let e = c in let s = e.args in taken_at e.end-to.result c.amount.result ≡ number_at s.most s.at s.text.now = let s = c.args in
-    ap₂ taken_at c.end-to.ensures
-    (c.amount.ensures ∙ ap (amount_of s.most) (word_part (s.at + 1) s.text.now c.end-to.result c.end-to.ensures))
-    ∙ sym (number-here s.most s.at s.text.now (eq-eqb _ _ c.if-text-at-ne32.false)) in
-    ap (taken_at c.end-to.result) (sym c.in-Refused.is) ∙ taken_here
+    let s = c.args in
+    ap (taken_at c.end-to.result) (sym c.in-Refused.is)
+    ∙ taken_here s.most s.at s.text.now c.end-to.result c.amount.result c.if-text-at-ne32.false c.end-to.ensures c.amount.ensures
 
 pub returns-in-Is : goal.returns-in-Is
 returns-in-Is c =
-    let taken_here : let e = c in let s = e.args in taken_at e.end-to.result c.amount.result ≡ number_at s.most s.at s.text.now = let s = c.args in
-    ap₂ taken_at c.end-to.ensures
-    (c.amount.ensures ∙ ap (amount_of s.most) (word_part (s.at + 1) s.text.now c.end-to.result c.end-to.ensures))
-    ∙ sym (number-here s.most s.at s.text.now (eq-eqb _ _ c.if-text-at-ne32.false)) in
-    ap (taken_at c.end-to.result) (sym c.in-Is.is) ∙ taken_here
+    let s = c.args in
+    ap (taken_at c.end-to.result) (sym c.in-Is.is)
+    ∙ taken_here s.most s.at s.text.now c.end-to.result c.amount.result c.if-text-at-ne32.false c.end-to.ensures c.amount.ensures
