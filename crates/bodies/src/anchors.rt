@@ -12,7 +12,8 @@ use ids::Anchor;
 pub fn anchor_record(anchor: Anchor) -> AnchorRecord
     ensures { result ≡ anchor_record anchor }
 {
-    if ids::ANCHOR_SEQ_MAX < anchor.head_seq {
+    let is_above = ids::ANCHOR_SEQ_MAX < anchor.head_seq;
+    if is_above {
         let z = Raw::none();
         return AnchorRecord {
             answer: Answer::WriteError,

@@ -63,7 +63,8 @@ pub fn decode_header(slot: &[u8], version: u8) -> Header
     if !has_magic(slot) {
         return Header::Invalid;
     }
-    if slot[8] != version {
+    let is_other = slot[8] != version;
+    if is_other {
         return Header::Invalid;
     }
     if checksum::check12(crc::start(), slot) != checksum::carried(slot) {

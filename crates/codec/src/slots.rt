@@ -60,7 +60,8 @@ pub fn decode_from(slot: &[u8], start: u32) -> OptRaw
     if slot.len() != SLOT {
         return nothing();
     }
-    if slot[0] == 0xFF {
+    let is_free = slot[0] == 0xFF;
+    if is_free {
         return nothing();
     }
     if checksum::check12(start, slot) != checksum::carried(slot) {

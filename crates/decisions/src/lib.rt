@@ -1,5 +1,5 @@
 // What a call decides on the record held of its key (to refuse, to answer without a write, or to write a record), and what comes of it.
-// Here stands what a decision is; the calls themselves stand in log and tries.
+// Here stands what a decision is; the calls themselves stand in counter_log and tries.
 #![tactic(auto)]
 
 mod puts; // what put and put_value decide
@@ -49,7 +49,8 @@ pub fn answers(answer: Answer, value: u64) -> Decision
 pub fn writes(room: bool, rec: Raw, reply: u64) -> Decision
     ensures { result ≡ write room rec reply }
 {
-    if !room {
+    let is_full = !room;
+    if is_full {
         return answers(Answer::KeystoreFull, 0);
     }
     Decision {

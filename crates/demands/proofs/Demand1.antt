@@ -39,7 +39,7 @@ use Rattle.reads.specs.Reads.{anchor_of, told_of, told_refused, lamport_by, migr
 use Rattle.reads.specs.Reads.{counter_says, number_says, anchored_says}
 use Rattle.decisions.specs.Outcomes.{Outcome, flash_of, refused, entered}
 use Rattle.ids.specs.declared.Anchor.{Anchor}
-use Rattle.ids.specs.Ids.{counter_tag, value_tag, anchor_tag, lamport as lamportId, is_credential, is_value}
+use Rattle.ids.specs.Ids.{counter_tag, value_tag, anchor_tag, lamport as lamport_id, is_credential, is_value}
 use Rattle.records.specs.Logs.{records_of, log_of}
 use Rattle.scan.specs.declared.Opened.{Opened}
 use Rattle.scan.specs.Opening.{scan_of, log_from, open_of}
@@ -47,7 +47,7 @@ use Rattle.decisions.specs.declared.Decision.{Decision}
 use Rattle.decisions.specs.Decisions.{when_active}
 use Rattle.decisions.specs.Seeds.{seeds_known, seed_table}
 use Rattle.decisions.specs.Performing.{performed, decided, formatted}
-use Rattle.counter_log.specs.Calls.{is_first, anchored_first, anchored as anchoredOn, format_on, put_anchor_of, format_of}
+use Rattle.counter_log.specs.Calls.{is_first, anchored_first, anchored as anchored_on, format_on, put_anchor_of, format_of}
 use Rattle.tries.specs.Tries.{tries_left_by, tries_left_says, load_by}
 use Rattle.demands.specs.Calls.{Call, outcome_of, NoEffect}
 use Rattle.demands.specs.Seen.{Seen}
@@ -187,7 +187,7 @@ module _ (image : List ℕ) (log : Log) (plan : Plan) where
     format-not-ready t (Active sector seq head) e = (refl, refl)
 
     anchor-not-ready : (new : Anchor) (z : State) → (by_state (pick (is_first new) 0 4) 5 0 z ≡ 0 → ⊥)
-        → Refused (by_state (pick (is_first new) 0 4) 5 0 z) (anchoredOn z new n log f)
+        → Refused (by_state (pick (is_first new) 0 4) 5 0 z) (anchored_on z new n log f)
     anchor-not-ready new Unformatted e = go (is_first new) e
       where
         go : (b : Bool) → (pick {A = ℕ} b 0 4 ≡ 0 → ⊥)
@@ -207,7 +207,7 @@ module _ (image : List ℕ) (log : Log) (plan : Plan) where
         entered-refused _ known (decided tag id d) k
         (inactive (d (held_of tag id (records_of log)) (room_for tag id (records_of log))) log.state e))
         (λ new k e.
-        entered-refused _ true (λ (n : ℕ) (l : Log) (f : Flash). anchoredOn l.state new n l f) k (anchor-not-ready new log.state e))
+        entered-refused _ true (λ (n : ℕ) (l : Log) (f : Flash). anchored_on l.state new n l f) k (anchor-not-ready new log.state e))
         (λ seeds count k e.
         entered-refused _ (seeds_known seeds count) (λ (n : ℕ) (l : Log) (f : Flash). format_on l.state (seed_table seeds count) n l f) k
         (format-not-ready (seed_table seeds count) log.state e))
@@ -241,7 +241,7 @@ module _ (log : Log) where
       (turned-away counter_by counter.Refused log (is_credential credential) counter_tag credential a e d)
   asked_refused anchor a e d low = ap anchored_says (turned-away anchor_by anchored.Refused log true anchor_tag 0 a e d)
   asked_refused lamport a e d low =
-      ap (λ (x : Number). told_says (lamport_by x)) (turned-away number_by number.Refused log true value_tag lamportId a e d)
+      ap (λ (x : Number). told_says (lamport_by x)) (turned-away number_by number.Refused log true value_tag lamport_id a e d)
   asked_refused needs-migration a e d low = ap told_says (turned-away migration_by told_refused log true anchor_tag 0 a e d)
   asked_refused (load credential exists fresh) a e d low =
       ap (λ (x : Counter). told_says (load_by exists fresh (tries_left_by x)))
@@ -273,8 +273,8 @@ module _ (log : Log) where
       ap anchored_says (taken_in anchor_by anchored.Refused log true anchor_tag 0 e)
       ∙ state_says (λ (z : State). anchored_says (anchor_by z (held_of anchor_tag 0 (records_of log)))) says_refused log.state d refl refl
   asked_not-ready lamport e d =
-      ap (λ (x : Number). told_says (lamport_by x)) (taken_in number_by number.Refused log true value_tag lamportId e)
-      ∙ state_says (λ (z : State). told_says (lamport_by (number_by z (held_of value_tag lamportId (records_of log))))) (λ (k : ℕ). says_number k 0) log.state d
+      ap (λ (x : Number). told_says (lamport_by x)) (taken_in number_by number.Refused log true value_tag lamport_id e)
+      ∙ state_says (λ (z : State). told_says (lamport_by (number_by z (held_of value_tag lamport_id (records_of log))))) (λ (k : ℕ). says_number k 0) log.state d
       refl refl
   asked_not-ready needs-migration e d = absurd (d refl)
   asked_not-ready (load credential exists fresh) e d = absurd (d refl)

@@ -1,4 +1,4 @@
-// A request met on a plan by value: each kind is a call of log or tries, or a step of this crate's own.
+// A request met on a plan by value: each kind is a call of counter_log or tries, or a step of this crate's own.
 ghost use Rattle.std.specs.Prelude.{◌≡◌};
 ghost use Rattle.decisions.specs.Outcomes.{ShowsDone};
 ghost use Rattle.decisions.specs.Ready.{answered_of};

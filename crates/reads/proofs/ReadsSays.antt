@@ -24,11 +24,11 @@ use Rattle.reads.specs.Reads.{read_by, held_says, read_says, counter_by, get_of,
 use Rattle.reads.specs.Reads.{anchor_by, anchor_of, anchor_says, counter_says, number_says, anchored_says}
 
 -- of any read: what is said of the answer is what is said of the state and record, or of the refusal
-read-says : {R A : Type 0} (says : R → Says A) (by : State → OptRaw → R) (refused : Answer → R) (unformatted : Says A) (bodyIn : List ℕ → A)
-    → ((z : State) (held : OptRaw) → says (by z held) ≡ held_says unformatted bodyIn z held)
+read-says : {R A : Type 0} (says : R → Says A) (by : State → OptRaw → R) (refused : Answer → R) (unformatted : Says A) (body_in : List ℕ → A)
+    → ((z : State) (held : OptRaw) → says (by z held) ≡ held_says unformatted body_in z held)
     → ((a : Answer) → says (refused a) ≡ says_refused (number_of a))
-    → (log : Log) (known : Bool) (tag id : ℕ) → says (read_by by refused log known tag id) ≡ read_says unformatted bodyIn log known tag id
-read-says says by refused unformatted bodyIn on off log known tag id =
+    → (log : Log) (known : Bool) (tag id : ℕ) → says (read_by by refused log known tag id) ≡ read_says unformatted body_in log known tag id
+read-says says by refused unformatted body_in on off log known tag id =
     let b = is_done (entry_answer 16 log known) in
     let held = held_of tag id (records_of log) in
     pick_through says b (by log.state held) (refused (entry_answer 16 log known))

@@ -32,12 +32,12 @@ read_by by refused log known tag id =
 
 -- the same in the paper's numbers, for any value that a body holds; `unformatted`: what is said of an Unformatted log, 4 or that there is none
 abbrev pub held_says : {A : Type 0} → Says A → (List ℕ → A) → State → OptRaw → Says A
-held_says unformatted bodyIn Unformatted held = unformatted
-held_says unformatted bodyIn Failed held = says_refused 5
-held_says unformatted bodyIn (Active sector seq head) held = pick held.some (says_held (bodyIn held.raw.body)) says_nothing
+held_says unformatted body_in Unformatted held = unformatted
+held_says unformatted body_in Failed held = says_refused 5
+held_says unformatted body_in (Active sector seq head) held = pick held.some (says_held (body_in held.raw.body)) says_nothing
 
 abbrev pub read_says : {A : Type 0} → Says A → (List ℕ → A) → Log → Bool → ℕ → ℕ → Says A
-read_says unformatted bodyIn = read_by (held_says unformatted bodyIn) (λ a. says_refused (number_of a))
+read_says unformatted body_in = read_by (held_says unformatted body_in) (λ a. says_refused (number_of a))
 
 -- ---- get: "4 NotFormatted, 5 ReadError: log Unformatted, log Failed"
 abbrev pub counter_by : State → OptRaw → Counter

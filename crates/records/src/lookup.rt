@@ -12,10 +12,12 @@ pub fn look(log: Log, sectors: usize, tag: u8, id: u8) -> Looked
     let state = log.state;
     let table = log.table;
     let count = log.count;
-    if log.next_seq == 0 {
+    let has_no_seq = log.next_seq == 0;
+    if has_no_seq {
         return fitting::misfit();
     }
-    if LIMIT < count {
+    let is_over = LIMIT < count;
+    if is_over {
         return fitting::misfit();
     }
     if !fitting::state_fits(state, log.next_seq, count, sectors) {

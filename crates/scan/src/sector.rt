@@ -39,7 +39,8 @@ pub fn scan_sector(image: &[u8], sector: usize, seq: u32) -> RegionScan
             }
             continue;
         }
-        if count == LIMIT {
+        let is_full = count == LIMIT;
+        if is_full {
             return unreadable();
         }
         table[count] = r;

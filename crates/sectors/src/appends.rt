@@ -23,7 +23,8 @@ fn try_slots(image: &mut [u8], sector: usize, head: u32, bytes: [u8; SLOT], used
     let mut u = used;
     let mut left: u32 = 3;
     while 0 < left {
-        if h == HEAD_MAX {
+        let is_full = h == HEAD_MAX;
+        if is_full {
             return Tried {
                 full: true,
                 answer: answer,

@@ -47,7 +47,8 @@ pub fn commit(
         let here = s;
         s = sector_after(sectors, s);
         left -= 1;
-        if here == avoid {
+        let is_avoided = here == avoid;
+        if is_avoided {
             continue;
         }
         if next == SEQ_MAX {

@@ -22,7 +22,7 @@ use flash::Plan;
 use records::State;
 
 // What a call has used of its plan so far, and the bytes that it has programmed and erased.
-#[derive(Drop)]
+#[derive(Clone, Copy)]
 pub struct Used {
     pub plan: Plan,
     pub programmed: usize,
@@ -30,14 +30,14 @@ pub struct Used {
 }
 
 // What one program or erase came to.
-#[derive(Drop)]
+#[derive(Clone, Copy)]
 pub struct Step {
     pub answer: Answer,
     pub used: Used,
 }
 
 // What a write came to, the table apart.
-#[derive(Drop)]
+#[derive(Clone, Copy)]
 pub struct Wrote {
     pub answer: Answer,
     pub state: State,
@@ -46,7 +46,7 @@ pub struct Wrote {
 }
 
 // What the tries of a slot came to; `full` where head reached 256 first.
-#[derive(Drop)]
+#[derive(Clone, Copy)]
 struct Tried {
     pub full: bool,
     pub answer: Answer,

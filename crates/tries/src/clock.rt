@@ -19,7 +19,8 @@ fn larger(held: OptRaw, seen: u64) -> u64
     if held.some {
         let raw = held.raw;
         let old = bodies::value_of(raw);
-        if seen < old {
+        let is_behind = seen < old;
+        if is_behind {
             return old;
         }
     }

@@ -17,7 +17,7 @@ use reads::{Counter, Told};
 use records::Log;
 
 // The tries left of a credential, where a record of it is held.
-#[derive(Drop)]
+#[derive(Clone, Copy)]
 pub enum TriesLeft {
     Refused(Answer),
     Nothing,
@@ -41,13 +41,15 @@ pub fn load(log: Log, credential: u8, exists: bool, fresh: u8) -> Told
 {
     match remaining(log, credential) {
         TriesLeft::Refused(answer) => {
-            if 4 <= basics::number(answer) {
+            let is_of_state = 4 <= basics::number(answer);
+            if is_of_state {
                 return Told::of(0);
             }
             Told::refused(answer)
         }
         TriesLeft::Nothing => {
-            if exists {
+            let is_lost = exists;
+            if is_lost {
                 return Told::of(0);
             }
             Told::of(fresh as u64)

@@ -27,7 +27,8 @@ fn spend_from(s: CounterState, room: bool, credential: u8) -> Decision
     ensures { result ≡ spend_from s room credential }
 {
     let before = s.remaining();
-    if before == 0 {
+    let is_none_left = before == 0;
+    if is_none_left {
         return decisions::answers(Answer::Done, 0);
     }
     match s.after_failure() {
@@ -68,7 +69,8 @@ fn set_decision(held: OptRaw, room: bool, credential: u8, tries: u8) -> Decision
     if !held.some {
         return written;
     }
-    if s.remaining() == tries {
+    let is_same = s.remaining() == tries;
+    if is_same {
         return decisions::answers(Answer::Done, 0);
     }
     written

@@ -25,7 +25,7 @@ pub record Row : Type 1 where
   pub said : kind
 
 abbrev counter : ℕ → ℕ → ℕ → CounterState
-counter allowance total atReset = record { total = total; at_reset = atReset; allowance = allowance }
+counter allowance total at_reset = record { total = total; at_reset = at_reset; allowance = allowance }
 
 abbrev anchor : ℕ → ℕ → ℕ → Anchor
 anchor gen seq slot = record { format_gen = gen; head_seq = seq; head_slot = slot }

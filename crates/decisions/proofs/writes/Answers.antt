@@ -5,10 +5,10 @@ use mathlib.Core.Bool.{Bool}
 use Rattle.decisions.specs.Decisions.{write}
 use Rattle.decisions.proofs.writes.Goals as goal
 
-pub returns-then-not-room : goal.returns-then-not-room
-returns-then-not-room c =
+pub returns-then-is_full : goal.returns-then-is_full
+returns-then-is_full c =
     let a = c.args in
-    c.answers.ensures ∙ ap (λ (b : Bool). write b a.rec a.reply) (sym (not-true a.room c.if-not-room.true-raw))
+    c.answers.ensures ∙ ap (λ (b : Bool). write b a.rec a.reply) (sym (not-true a.room c.if-is_full.true-raw))
 
 pub returns : goal.returns
-returns c = let a = c.args in ap (λ (b : Bool). write b a.rec a.reply) (sym (not-false a.room c.if-not-room.false-raw))
+returns c = let a = c.args in ap (λ (b : Bool). write b a.rec a.reply) (sym (not-false a.room c.if-is_full.false-raw))

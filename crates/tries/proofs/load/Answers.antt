@@ -9,8 +9,8 @@ use Rattle.tries.specs.declared.TriesLeft.{TriesLeft}
 use Rattle.tries.specs.Tries.{load_by, load_of}
 use Rattle.tries.proofs.load.Goals as goal
 
-pub returns-then-number-ge4 : goal.returns-then-number-ge4
-returns-then-number-ge4 c =
+pub returns-then-is_of_state : goal.returns-then-is_of_state
+returns-then-is_of_state c =
     let by : (x : TriesLeft) → c.remaining.result ≡ x → let a =
     c.args in load_by a.exists a.fresh x
     ≡ load_of a.log a.credential a.exists a.fresh = λ x e. let a = c.args in ap (load_by a.exists a.fresh) (sym e ∙ c.remaining.ensures.0) in
@@ -18,20 +18,20 @@ returns-then-number-ge4 c =
     c.of.ensures
     ∙ sym
     (ap (λ (b : Bool). pick b (told_of 0) (told_refused a))
-    (ap (leb 4) (sym c.number.ensures) ∙ le-leb 4 c.number.result c.if-number-ge4.true))
+    (ap (leb 4) (sym c.number-is_of_state.ensures) ∙ le-leb 4 c.number-is_of_state.result c.if-is_of_state.true))
     ∙ by _ c.in-Refused.is
 
-pub returns-then-exists : goal.returns-then-exists
-returns-then-exists c =
+pub returns-then-is_lost : goal.returns-then-is_lost
+returns-then-is_lost c =
     let by : (x : TriesLeft) → c.remaining.result ≡ x → let a =
     c.args in load_by a.exists a.fresh x
     ≡ load_of a.log a.credential a.exists a.fresh = λ x e. let a = c.args in ap (load_by a.exists a.fresh) (sym e ∙ c.remaining.ensures.0) in
-    c.of-then-exists.ensures
-    ∙ sym (ap (λ (b : Bool). told_of (pick b 0 c.args.fresh)) c.if-exists.true)
+    c.of-then-is_lost.ensures
+    ∙ sym (ap (λ (b : Bool). told_of (pick b 0 c.args.fresh)) c.if-is_lost.true)
     ∙ by _ c.in-Nothing.is
 
-pub returns-else-number-ge4 : goal.returns-else-number-ge4
-returns-else-number-ge4 c =
+pub returns-else-is_of_state : goal.returns-else-is_of_state
+returns-else-is_of_state c =
     let by : (x : TriesLeft) → c.remaining.result ≡ x → let a =
     c.args in load_by a.exists a.fresh x
     ≡ load_of a.log a.credential a.exists a.fresh = λ x e. let a = c.args in ap (load_by a.exists a.fresh) (sym e ∙ c.remaining.ensures.0) in
@@ -39,16 +39,16 @@ returns-else-number-ge4 c =
     c.refused.ensures
     ∙ sym
     (ap (λ (b : Bool). pick b (told_of 0) (told_refused a))
-    (ap (leb 4) (sym c.number.ensures) ∙ lt-leb 4 c.number.result c.if-number-ge4.false))
+    (ap (leb 4) (sym c.number-is_of_state.ensures) ∙ lt-leb 4 c.number-is_of_state.result c.if-is_of_state.false))
     ∙ by _ c.in-Refused.is
 
-pub returns-else-exists : goal.returns-else-exists
-returns-else-exists c =
+pub returns-else-is_lost : goal.returns-else-is_lost
+returns-else-is_lost c =
     let by : (x : TriesLeft) → c.remaining.result ≡ x → let a =
     c.args in load_by a.exists a.fresh x
     ≡ load_of a.log a.credential a.exists a.fresh = λ x e. let a = c.args in ap (load_by a.exists a.fresh) (sym e ∙ c.remaining.ensures.0) in
     c.of-in-Nothing.ensures
-    ∙ sym (ap (λ (b : Bool). told_of (pick b 0 c.args.fresh)) c.if-exists.false)
+    ∙ sym (ap (λ (b : Bool). told_of (pick b 0 c.args.fresh)) c.if-is_lost.false)
     ∙ by _ c.in-Nothing.is
 
 pub returns-in-Tries : goal.returns-in-Tries

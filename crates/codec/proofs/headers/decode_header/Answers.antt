@@ -26,12 +26,12 @@ returns-then-not-has_magic c =
     sym c.has_magic.ensures ∙ not-true c.has_magic.result c.if-not-has_magic.true-raw in
     rw (eq-eqb _ _ c.if-slot-ne-SLOT.false, none)
 
-pub returns-then-slot-version : goal.returns-then-slot-version
+pub returns-then-is_other : goal.returns-then-is_other
 unfolding header_of
-returns-then-slot-version c =
+returns-then-is_other c =
     let slot : List ℕ = c.args.slot.now in
     let magic : magic_at slot ≡ true = sym c.has_magic.ensures ∙ not-false c.has_magic.result c.if-not-has_magic.false-raw in
-    rw (eq-eqb _ _ c.if-slot-ne-SLOT.false, magic, ne_eqb _ _ c.if-slot-version.true)
+    rw (eq-eqb _ _ c.if-slot-ne-SLOT.false, magic, ne_eqb _ _ c.if-is_other.true)
 
 pub returns-then-check12-carried : goal.returns-then-check12-carried
 unfolding header_of
@@ -44,7 +44,7 @@ returns-then-check12-carried c =
     rw (
       eq-eqb _ _ c.if-slot-ne-SLOT.false,
       magic,
-      eq-eqb _ _ c.if-slot-version.false,
+      eq-eqb _ _ c.if-is_other.false,
       ne_eqb _ _ (λ e. c.if-check12-carried.true (checked ∙ e ∙ sym c.carried.ensures)),
     )
 
@@ -59,7 +59,7 @@ returns c =
     rw (
       eq-eqb _ _ c.if-slot-ne-SLOT.false,
       magic,
-      eq-eqb _ _ c.if-slot-version.false,
+      eq-eqb _ _ c.if-is_other.false,
       eq-eqb _ _ (sym checked ∙ c.if-check12-carried.false ∙ c.carried.ensures),
     )
     (ap Valid (c.number4.ensures ∙ ap le_number (read-part 4 4 slot (omega (arith, c.if-slot-ne-SLOT.false)))))

@@ -8,9 +8,9 @@ pub returns-then-slot-ne-SLOT : goal.returns-then-slot-ne-SLOT
 unfolding decoded_with
 returns-then-slot-ne-SLOT c = rw (c.nothing.ensures, ne_eqb _ _ c.if-slot-ne-SLOT.true)
 
-pub returns-then-slot : goal.returns-then-slot
+pub returns-then-is_free : goal.returns-then-is_free
 unfolding decoded_with
-returns-then-slot c = rw (c.nothing-then-slot.ensures, eq-eqb _ _ c.if-slot-ne-SLOT.false, eq-eqb _ _ c.if-slot.true)
+returns-then-is_free c = rw (c.nothing-then-is_free.ensures, eq-eqb _ _ c.if-slot-ne-SLOT.false, eq-eqb _ _ c.if-is_free.true)
 
 pub returns-then-check12-carried : goal.returns-then-check12-carried
 unfolding decoded_with
@@ -18,7 +18,7 @@ returns-then-check12-carried c =
     rw (
       c.nothing-then-check12-carried.ensures,
       eq-eqb _ _ c.if-slot-ne-SLOT.false,
-      ne_eqb _ _ c.if-slot.false,
+      ne_eqb _ _ c.if-is_free.false,
       ne_eqb _ _ (λ e. c.if-check12-carried.true (c.check12.ensures ∙ e ∙ sym c.carried.ensures)),
     )
 
@@ -28,6 +28,6 @@ returns c =
     rw (
       c.from_slot-r.ensures,
       eq-eqb _ _ c.if-slot-ne-SLOT.false,
-      ne_eqb _ _ c.if-slot.false,
+      ne_eqb _ _ c.if-is_free.false,
       eq-eqb _ _ (sym c.check12.ensures ∙ c.if-check12-carried.false ∙ c.carried.ensures),
     )

@@ -4,15 +4,15 @@ use borrow.Author.Tests.{not-true, not-false}
 use Rattle.records.proofs.FittingLooking.{no_seq, looked_of_many, bad_state, bad_places, by_keys}
 use Rattle.records.proofs.lookup.look.Goals as goal
 
-pub returns-then-log-eq0 : goal.returns-then-log-eq0
-returns-then-log-eq0 c =
+pub returns-then-has_no_seq : goal.returns-then-has_no_seq
+returns-then-has_no_seq c =
     let a = c.args in
-    c.misfit.ensures ∙ no_seq a.sectors a.tag a.id a.log c.if-log-eq0.true
+    c.misfit.ensures ∙ no_seq a.sectors a.tag a.id a.log c.if-has_no_seq.true
 
-pub returns-then-count-gt-LIMIT : goal.returns-then-count-gt-LIMIT
-returns-then-count-gt-LIMIT c =
+pub returns-then-is_over : goal.returns-then-is_over
+returns-then-is_over c =
     let a = c.args in
-    c.misfit-then-count-gt-LIMIT.ensures ∙ looked_of_many a.sectors a.tag a.id a.log c.if-count-gt-LIMIT.true
+    c.misfit-then-is_over.ensures ∙ looked_of_many a.sectors a.tag a.id a.log c.if-is_over.true
 
 pub returns-then-not-state_fits : goal.returns-then-not-state_fits
 returns-then-not-state_fits c =
@@ -33,7 +33,7 @@ returns c =
     let a = c.args in
     c.survey.ensures
     ∙ by_keys a.sectors a.tag a.id a.log
-    c.if-log-eq0.false
-    c.if-count-gt-LIMIT.false
+    c.if-has_no_seq.false
+    c.if-is_over.false
     (sym c.state_fits.ensures ∙ not-false c.state_fits.result c.if-not-state_fits.false-raw)
     (sym c.zeros_past.ensures ∙ not-false c.zeros_past.result c.if-not-zeros_past.false-raw)

@@ -12,7 +12,7 @@ use Rattle.records.specs.Table.{holds}
 use Rattle.records.proofs.TableJoining.{nowhere}
 use Rattle.records.proofs.SurveysLaws.{start, is-met, not-met, finish, blank, twice, hit, miss}
 use Rattle.records.proofs.survey.survey.Goals as goal
-use Rattle.records.proofs.survey.survey.Goals.{then-met-mark-ne0+else-find-i, else-met-mark-ne0, then-r-tag+then-r-id, then-r-tag+else-r-id, else-r-tag}
+use Rattle.records.proofs.survey.survey.Goals.{then-met-mark-ne0+else-is_twice, else-met-mark-ne0, then-r-tag+then-r-id, then-r-tag+else-r-id, else-r-tag}
 
 pub loop-i-init : goal.loop-i-init
 loop-i-init c =
@@ -28,14 +28,14 @@ returns-then-r c =
     let here : get_or records-of c.loop-i.i nowhere ≡ record_read = let a = c.args in get_or-take a.count a.table c.loop-i.i nowhere c.loop-i-test.true in
     c.misfit.ensures ∙ blank c.loop-i.invariant.1 more here c.if-r.true
 
-pub returns-then-find-i : goal.returns-then-find-i
-returns-then-find-i c =
+pub returns-then-is_twice : goal.returns-then-is_twice
+returns-then-is_twice c =
     let records-of : List Raw = take c.args.count c.args.table in
     let record_read : Raw = get_or c.args.table c.loop-i.i nowhere in
     let more : c.loop-i.i < length records-of = omega arith in
     let here : get_or records-of c.loop-i.i nowhere ≡ record_read = let a = c.args in get_or-take a.count a.table c.loop-i.i nowhere c.loop-i-test.true in
     let s = c.loop-i.invariant.1 in
-    c.misfit-then-find-i.ensures ∙ twice s more here (is-met s _ _ (rw c.find.ensures at c.if-find-i.true))
+    c.misfit-then-is_twice.ensures ∙ twice s more here (is-met s _ _ (rw c.find.ensures at c.if-is_twice.true))
 
 pub loop-i-preserved : goal.loop-i-preserved
 loop-i-preserved c =
@@ -46,7 +46,7 @@ loop-i-preserved c =
     let s = c.loop-i.invariant.1 in
     let fresh : holds record_read.tag record_read.id (take c.loop-i.i records-of) ≡ false =
     elim c.if-met-mark-ne0.branch [
-      | then-met-mark-ne0+else-find-i w ↦ not-met s _ _ (rw w.find.ensures at w.if-find-i.false)
+      | then-met-mark-ne0+else-is_twice w ↦ not-met s _ _ (rw w.find.ensures at w.if-is_twice.false)
       | else-met-mark-ne0 w ↦ s.unmet _ _ w.if-met-mark-ne0.false
     ] in
     let r = record_read in

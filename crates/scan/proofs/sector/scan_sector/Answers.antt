@@ -137,8 +137,8 @@ loop-k-preserved-else-replaces c =
           ∙ not-false (falls raw_read stands) (sym c.replaces.ensures ∙ c.if-replaces.false)),
     )
 
-pub returns-then-count-eq-LIMIT : goal.returns-then-count-eq-LIMIT
-returns-then-count-eq-LIMIT c =
+pub returns-then-is_full : goal.returns-then-is_full
+returns-then-is_full c =
     let seq-of : ℕ = c.args.seq in
     let slots-of : ℕ → List ℕ = slot_at c.args.image.now c.args.sector in
     let erased-is : c.is_erased.result ≡ all_are 0xFF (slots-of c.loop-k.k) = c.is_erased.ensures ∙ ap (all_are 0xFF) c.slot-slot.ensures in
@@ -159,7 +159,7 @@ returns-then-count-eq-LIMIT c =
     c.unreadable.ensures
     ∙ ap (region_read _ _ _)
     (sym (full _ _ _ _ _ _ _ _ held going used raw_read record_is
-    (omega (arith, place_is, c.if-at-count.false)) c.if-count-eq-LIMIT.true))
+    (omega (arith, place_is, c.if-at-count.false)) c.if-is_full.true))
 
 pub loop-k-preserved : goal.loop-k-preserved
 loop-k-preserved c =
@@ -182,7 +182,7 @@ loop-k-preserved c =
     c.find-at.ensures ∙ place_found _ _ _ _ _ _ _ _ held going raw_read.tag raw_read.id in (
       c.loop-k.invariant.0,
       add _ _ _ _ _ _ _ _ held going used raw_read record_is (omega (arith, place_is, c.if-at-count.false))
-          (omega (arith, held.most, c.if-count-eq-LIMIT.false)),
+          (omega (arith, held.most, c.if-is_full.false)),
     )
 
 pub returns : goal.returns

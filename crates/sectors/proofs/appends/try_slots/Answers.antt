@@ -16,14 +16,14 @@ use Rattle.sectors.proofs.appends.try_slots.Goals as goal
 pub loop-left-init : goal.loop-left-init
 loop-left-init c = (c.requires.0, omega arith, refl, omega arith, λ cut. (cut, refl))
 
-pub shape_of-image-then-h-eq-HEAD_MAX : goal.shape_of-image-then-h-eq-HEAD_MAX
-shape_of-image-then-h-eq-HEAD_MAX c = c.loop-left.invariant.2
+pub shape_of-image-then-is_full : goal.shape_of-image-then-is_full
+shape_of-image-then-is_full c = c.loop-left.invariant.2
 
-pub returns-then-h-eq-HEAD_MAX : goal.returns-then-h-eq-HEAD_MAX
-returns-then-h-eq-HEAD_MAX c = λ cut.
+pub returns-then-is_full : goal.returns-then-is_full
+returns-then-is_full c = λ cut.
     rw
     (sym (c.loop-left.invariant.4 cut).1
-    ∙ tries-full _ _ _ _ _ _ c.loop-left-test.true c.if-h-eq-HEAD_MAX.true)
+    ∙ tries-full _ _ _ _ _ _ c.loop-left-test.true c.if-is_full.true)
     (record { shown = refl; left = refl })
 
 pub shape_of-image-then-is_done : goal.shape_of-image-then-is_done
@@ -42,7 +42,7 @@ returns-then-is_done c =
     let now = (c.loop-left.invariant.4 cut).0 in
     let done = answer-is now ∙ c.if-is_done.true in
     let came =
-    tries-done _ _ _ _ _ _ c.loop-left-test.true c.if-h-eq-HEAD_MAX.false done
+    tries-done _ _ _ _ _ _ c.loop-left-test.true c.if-is_full.false done
     ∙ ap (λ (o : Stepped). record { full = false; answer = Done; head = c.loop-left.h + 1; flash = o.flash }) (turn_is now) in
     rw (sym (c.loop-left.invariant.4 cut).1 ∙ came) (record { shown = refl; left = refl })
 
@@ -59,7 +59,7 @@ loop-left-preserved c =
     let most = program-within c.args.sector c.loop-left.h c.args.bytes (flash-of true) in
     omega (arith, most.programmed, ap (λ (o : Stepped). o.flash.programmed) (turn_is true)) in
     let a = c.args in (
-      omega (arith, c.loop-left.invariant.0, c.if-h-eq-HEAD_MAX.false),
+      omega (arith, c.loop-left.invariant.0, c.if-is_full.false),
       omega (arith, c.loop-left.invariant.1),
       c.program-s.auto.image ∙ c.loop-left.invariant.2,
       omega (arith, cheap, c.loop-left.invariant.3, c.loop-left-test.true),
@@ -68,7 +68,7 @@ loop-left-preserved c =
           let failed = answer-is now ∙ c.if-is_done.false in (
             (turn now).flash.cut,
             ap (λ (o : Stepped). tries_from (c.loop-left.left - 1) a.sector (c.loop-left.h + 1) a.bytes o.answer o.flash) (sym (turn_is now))
-                ∙ sym (tries-on _ _ _ _ _ _ c.loop-left-test.true c.if-h-eq-HEAD_MAX.false failed)
+                ∙ sym (tries-on _ _ _ _ _ _ c.loop-left-test.true c.if-is_full.false failed)
                 ∙ (c.loop-left.invariant.4 cut).1,
           ),
     )

@@ -23,8 +23,8 @@ use Rattle.sectors.proofs.commits.commit.Goals as goal
 pub loop-left-init : goal.loop-left-init
 loop-left-init c = (c.requires.1, omega arith, omega (arith, c.ranges.next_seq), refl, omega arith, omega arith, λ cut. (cut, refl))
 
-pub loop-left-preserved-then-here-avoid : goal.loop-left-preserved-then-here-avoid
-loop-left-preserved-then-here-avoid c =
+pub loop-left-preserved-then-is_avoided : goal.loop-left-preserved-then-is_avoided
+loop-left-preserved-then-is_avoided c =
     let records-of : List Raw = take c.args.count c.args.table in
     let flash-of : Bool → Flash = λ now. flash_with c.loop-left.image c.loop-left.u now in
     let a = c.args in (
@@ -42,7 +42,7 @@ loop-left-preserved-then-here-avoid c =
                 commit_from (c.loop-left.left - 1) a.sectors a.avoid x records-of c.loop-left.answer a.state c.loop-left.next
                 (flash-of now))
                 c.sector_after-s.ensures
-                ∙ sym (commit-skip _ _ _ _ _ _ _ _ _ c.loop-left-test.true c.if-here-avoid.true)
+                ∙ sym (commit-skip _ _ _ _ _ _ _ _ _ c.loop-left-test.true c.if-is_avoided.true)
                 ∙ (c.loop-left.invariant.6 cut).1,
           ),
     )
@@ -54,7 +54,7 @@ pub returns-then-next : goal.returns-then-next
 returns-then-next c = λ cut.
     rw
     (sym (c.loop-left.invariant.6 cut).1
-    ∙ commit-used-up _ _ _ _ _ _ _ _ _ c.loop-left-test.true c.if-here-avoid.false c.if-next.true)
+    ∙ commit-used-up _ _ _ _ _ _ _ _ _ c.loop-left-test.true c.if-is_avoided.false c.if-next.true)
     (record { shown = refl; left = refl })
 
 pub write_sector-w-requires : goal.write_sector-w-requires
@@ -89,7 +89,7 @@ returns-then-is_done c =
     let now = (l.loop-left.invariant.6 cut).0 in
     let done = answer-is now ∙ c.if-is_done.true in
     let came =
-    commit-done _ _ _ _ _ _ _ _ _ c.loop-left-test.true c.if-here-avoid.false c.if-next.false done
+    commit-done _ _ _ _ _ _ _ _ _ c.loop-left-test.true c.if-is_avoided.false c.if-next.false done
     ∙ ap₂
     (λ (n : ℕ) (o : Stepped).
     record { answer = Done; state = Active l.loop-left.s l.loop-left.next (n + 1); next = l.loop-left.next + 1; flash = o.flash })
@@ -134,7 +134,7 @@ loop-left-preserved c =
                 commit_from (l.loop-left.left - 1) a.sectors a.avoid x records-of o.answer a.state (l.loop-left.next + 1)
                 o.flash)
                 c.sector_after-s.ensures (sym (turn_is now))
-                ∙ sym (commit-on _ _ _ _ _ _ _ _ _ c.loop-left-test.true c.if-here-avoid.false c.if-next.false failed)
+                ∙ sym (commit-on _ _ _ _ _ _ _ _ _ c.loop-left-test.true c.if-is_avoided.false c.if-next.false failed)
                 ∙ (l.loop-left.invariant.6 cut).1,
           ),
     )

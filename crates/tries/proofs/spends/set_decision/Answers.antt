@@ -31,9 +31,9 @@ returns-then-not-held c =
     let a = c.args in
     written_is ∙ sym (by _ (ap (λ (b : Bool). b && eqb (remaining_of counter) a.tries) (not-true a.held.some c.if-not-held.true)))
 
-pub returns-then-remaining-tries : goal.returns-then-remaining-tries
+pub returns-then-is_same : goal.returns-then-is_same
 unfolding set_decision
-returns-then-remaining-tries c =
+returns-then-is_same c =
     let counter : CounterState = start_of c.args.held c.args.tries in
     let written : Decision = let a = c.args in write a.room (counter_record a.credential (reset_of counter a.tries)) 0 in
     let by : (b : Bool) → (c.args.held.some && eqb (remaining_of counter) c.args.tries) ≡ b
@@ -45,7 +45,7 @@ returns-then-remaining-tries c =
     let m = w in
     ap (λ (x : Bool). x && eqb (remaining_of counter) a.tries) (not-false a.held.some c.if-not-held.false)
     ∙ ap (λ (n : ℕ). eqb n a.tries) (sym (c.remaining.ensures ∙ ap remaining_of m.start-s.ensures)) ∙ e in
-    c.answers.ensures ∙ sym (by _ (left _ (eq-eqb c.remaining.result c.args.tries c.if-remaining-tries.true)))
+    c.answers.ensures ∙ sym (by _ (left _ (eq-eqb c.remaining.result c.args.tries c.if-is_same.true)))
 
 pub returns : goal.returns
 unfolding set_decision
@@ -68,4 +68,4 @@ returns c =
     let m = w in
     ap (λ (x : Bool). x && eqb (remaining_of counter) a.tries) (not-false a.held.some c.if-not-held.false)
     ∙ ap (λ (n : ℕ). eqb n a.tries) (sym (c.remaining.ensures ∙ ap remaining_of m.start-s.ensures)) ∙ e in
-    written_is ∙ sym (by _ (left _ (ne_eqb c.remaining.result c.args.tries c.if-remaining-tries.false)))
+    written_is ∙ sym (by _ (left _ (ne_eqb c.remaining.result c.args.tries c.if-is_same.false)))

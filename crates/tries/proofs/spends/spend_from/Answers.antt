@@ -12,14 +12,14 @@ use Rattle.decisions.specs.Decisions.{give, write}
 use Rattle.tries.specs.Tries.{spent_by, spend_from}
 use Rattle.tries.proofs.spends.spend_from.Goals as goal
 
-pub returns-then-before-eq0 : goal.returns-then-before-eq0
+pub returns-then-is_none_left : goal.returns-then-is_none_left
 unfolding spend_from
-returns-then-before-eq0 c =
+returns-then-is_none_left c =
     let a = c.args in
     c.answers.ensures
     ∙ sym
     (ap (λ (b : Bool). pick b (give 0) (spent_by a.room a.credential (remaining_of a.s) (failed_of a.s)))
-    (ap (λ (n : ℕ). eqb n 0) (sym c.remaining-before.ensures) ∙ eq-eqb c.remaining-before.result 0 c.if-before-eq0.true))
+    (ap (λ (n : ℕ). eqb n 0) (sym c.remaining-before.ensures) ∙ eq-eqb c.remaining-before.result 0 c.if-is_none_left.true))
 
 pub returns-in-Refused : goal.returns-in-Refused
 unfolding spend_from
@@ -29,7 +29,7 @@ returns-in-Refused c =
     ap₂ (λ (n : ℕ) (y : Next). spent_by a.room a.credential n y) c.remaining-before.ensures (sym e ∙ c.after_failure.ensures.0)
     ∙ sym
     (ap (λ (b : Bool). pick b (give 0) (spent_by a.room a.credential (remaining_of a.s) (failed_of a.s)))
-    (ap (λ (n : ℕ). eqb n 0) (sym c.remaining-before.ensures) ∙ ne_eqb c.remaining-before.result 0 c.if-before-eq0.false)) in
+    (ap (λ (n : ℕ). eqb n 0) (sym c.remaining-before.ensures) ∙ ne_eqb c.remaining-before.result 0 c.if-is_none_left.false)) in
     c.answers-in-Refused.ensures ∙ spent _ c.in-Refused.is
 
 pub returns-in-State : goal.returns-in-State
@@ -41,7 +41,7 @@ returns-in-State c =
     ap₂ (λ (n : ℕ) (y : Next). spent_by a.room a.credential n y) r.remaining-before.ensures (sym e ∙ c.after_failure.ensures.0)
     ∙ sym
     (ap (λ (b : Bool). pick b (give 0) (spent_by a.room a.credential (remaining_of a.s) (failed_of a.s)))
-    (ap (λ (n : ℕ). eqb n 0) (sym r.remaining-before.ensures) ∙ ne_eqb r.remaining-before.result 0 c.if-before-eq0.false)) in
+    (ap (λ (n : ℕ). eqb n 0) (sym r.remaining-before.ensures) ∙ ne_eqb r.remaining-before.result 0 c.if-is_none_left.false)) in
     c.writes.ensures
     ∙ ap (λ (r : Raw). write c.args.room r c.remaining-before.result) c.counter_record.ensures
     ∙ spent _ c.in-State.is
