@@ -1,5 +1,5 @@
 // The input in chunks: one read more, where a line of it ends, and the rest that waits for the next.
-ghost use Rattle.std.specs.Prelude.{◌≤◌, length, IfOk};
+ghost use Rattle.std.specs.Prelude.{◌≡◌, ◌≤◌, length, take, IfOk};
 
 use crate::words;
 use std::io;
@@ -41,10 +41,11 @@ pub fn keep(input: &mut [u8], from: usize, to: usize) -> usize
     n
 }
 
-// One read behind the first `have` bytes; answers how many there are then.
+// One read behind the first `have` bytes; answers how many there are then. The only error is the reader's; those bytes stay, also then.
 pub fn more<R: Read>(reader: &mut R, input: &mut [u8], have: usize) -> io::Result<usize>
     requires { have ≤ length input.old }
-    ensures { IfOk result (λ n. (have ≤ n) × (n ≤ length input.old)) }
+    ensures ok { IfOk result (λ n. (have ≤ n) × (n ≤ length input.old)) }
+    ensures kept { take have input.new ≡ take have input.old }
 {
     let got = reader.read(&mut input[have..])?;
     Ok(have + got)
