@@ -1,14 +1,8 @@
 //! The proved library as Rust sees it: its structs in C's layout, and the functions of the object file that
 //! bench/run makes of the program `replay`. A result is written where the first parameter points, a struct is
-//! passed as a pointer that the callee copies from, and a slice as a pointer to a pointer and a length.
+//! passed as a pointer that the callee copies from, and a slice as a pointer and a length.
 
 use retry_counter::access::Held;
-
-#[repr(C)]
-struct Lent {
-    start: *const u8,
-    len: usize,
-}
 
 #[repr(C)]
 #[derive(Clone, Copy)]
@@ -58,12 +52,12 @@ struct Done {
 
 const _: () = assert!(size_of::<Log>() == 416 && size_of::<Opened>() == 424 && size_of::<Done>() == 472);
 
-type Change = unsafe extern "C" fn(&mut Done, &Lent, &Log, &Plan, u8, u8);
+type Change = unsafe extern "C" fn(&mut Done, *mut u8, usize, &Log, &Plan, u8, u8);
 
 unsafe extern "C" {
-    fn spoolewe_open(out: &mut Opened, image: &Lent);
-    fn spoolewe_spend(out: &mut Done, image: &Lent, log: &Log, plan: &Plan, credential: u8, current: u8);
-    fn spoolewe_set(out: &mut Done, image: &Lent, log: &Log, plan: &Plan, credential: u8, tries: u8);
+    fn spoolewe_open(out: &mut Opened, image: *const u8, len: usize);
+    fn spoolewe_spend(out: &mut Done, image: *mut u8, len: usize, log: &Log, plan: &Plan, credential: u8, current: u8);
+    fn spoolewe_set(out: &mut Done, image: *mut u8, len: usize, log: &Log, plan: &Plan, credential: u8, tries: u8);
 }
 
 const ZEROS: Log = Log {
@@ -82,9 +76,8 @@ pub fn unopened() -> Opened {
 }
 
 pub fn open(image: &[u8], out: &mut Opened) {
-    let lent = Lent { start: image.as_ptr(), len: image.len() };
     // SAFETY: the library reads the slice lent and writes `out`, in the layout declared above.
-    unsafe { spoolewe_open(out, &lent) }
+    unsafe { spoolewe_open(out, image.as_ptr(), image.len()) }
 }
 
 /// An image under an open log, as the last call left them. Two places take turns, so that a call reads the log
@@ -106,9 +99,9 @@ impl<'a> Board<'a> {
 
     #[inline]
     fn change(&mut self, call: Change, credential: u8, tries: u8) -> u8 {
-        let lent = Lent { start: self.image.as_mut_ptr(), len: self.image.len() };
+        let (image, len) = (self.image.as_mut_ptr(), self.image.len());
         // SAFETY: `image` is lent whole and to this call alone; the rest is as in `open`.
-        unsafe { call(&mut self.next, &lent, &self.last.log, &self.last.plan, credential, tries) }
+        unsafe { call(&mut self.next, image, len, &self.last.log, &self.last.plan, credential, tries) }
         std::mem::swap(&mut self.last, &mut self.next);
         assert!(self.last.answer == 0, "a call was refused");
         self.last.value as u8
