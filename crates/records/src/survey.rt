@@ -26,7 +26,8 @@ pub fn survey(table: [Raw; LIMIT], count: usize, tag: u8, id: u8) -> Looked
         }
         let mark = r.id as usize;
         if met[mark] != 0 {
-            let is_twice = crate::find(&tags, &ids, i, r.tag, r.id) < i;
+            let first = crate::find(&tags, &ids, i, r.tag, r.id);
+            let is_twice = first < i;
             if is_twice {
                 return fitting::misfit();
             }

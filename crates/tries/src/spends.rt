@@ -69,7 +69,8 @@ fn set_decision(held: OptRaw, room: bool, credential: u8, tries: u8) -> Decision
     if !held.some {
         return written;
     }
-    let is_same = s.remaining() == tries;
+    let left = s.remaining();
+    let is_same = left == tries;
     if is_same {
         return decisions::answers(Answer::Done, 0);
     }

@@ -1,5 +1,4 @@
 -- `decisions::writes` meets its contract.
-use borrow.Author.Tests.{not-true, not-false}
 use mathlib.Core.Path.{sym, ap, ◌∙◌}
 use mathlib.Core.Bool.{Bool}
 use Rattle.decisions.specs.Decisions.{write}
@@ -8,7 +7,7 @@ use Rattle.decisions.proofs.writes.Goals as goal
 pub returns-then-is_full : goal.returns-then-is_full
 returns-then-is_full c =
     let a = c.args in
-    c.answers.ensures ∙ ap (λ (b : Bool). write b a.rec a.reply) (sym (not-true a.room c.if-is_full.true-raw))
+    c.answers.ensures ∙ ap (λ (b : Bool). write b a.rec a.reply) (sym c.if-is_full.true)
 
 pub returns : goal.returns
-returns c = let a = c.args in ap (λ (b : Bool). write b a.rec a.reply) (sym (not-false a.room c.if-is_full.false-raw))
+returns c = let a = c.args in ap (λ (b : Bool). write b a.rec a.reply) (sym c.if-is_full.false)

@@ -35,7 +35,7 @@ returns-then-is_twice c =
     let more : c.loop-i.i < length records-of = omega arith in
     let here : get_or records-of c.loop-i.i nowhere ≡ record_read = let a = c.args in get_or-take a.count a.table c.loop-i.i nowhere c.loop-i-test.true in
     let s = c.loop-i.invariant.1 in
-    c.misfit-then-is_twice.ensures ∙ twice s more here (is-met s _ _ (rw c.find.ensures at c.if-is_twice.true))
+    c.misfit-then-is_twice.ensures ∙ twice s more here (is-met s _ _ (rw c.find-first.ensures at c.if-is_twice.true))
 
 pub loop-i-preserved : goal.loop-i-preserved
 loop-i-preserved c =
@@ -46,7 +46,7 @@ loop-i-preserved c =
     let s = c.loop-i.invariant.1 in
     let fresh : holds record_read.tag record_read.id (take c.loop-i.i records-of) ≡ false =
     elim c.if-met-mark-ne0.branch [
-      | then-met-mark-ne0+else-is_twice w ↦ not-met s _ _ (rw w.find.ensures at w.if-is_twice.false)
+      | then-met-mark-ne0+else-is_twice w ↦ not-met s _ _ (rw w.find-first.ensures at w.if-is_twice.false)
       | else-met-mark-ne0 w ↦ s.unmet _ _ w.if-met-mark-ne0.false
     ] in
     let r = record_read in

@@ -40,12 +40,12 @@ returns-then-is_same c =
     → set_decision c.args.held c.args.room c.args.credential c.args.tries
     ≡ pick b (give 0) written = λ b e. ap (λ (x : Bool). pick x (give 0) written) e in
     let left : (b : Bool) → let w =
-    c in let a = w.args in eqb c.remaining.result a.tries ≡ b → (a.held.some && eqb (remaining_of counter) a.tries) ≡ b = λ b e. let w = c in
+    c in let a = w.args in eqb c.remaining-left.result a.tries ≡ b → (a.held.some && eqb (remaining_of counter) a.tries) ≡ b = λ b e. let w = c in
     let a = w.args in
     let m = w in
     ap (λ (x : Bool). x && eqb (remaining_of counter) a.tries) (not-false a.held.some c.if-not-held.false)
-    ∙ ap (λ (n : ℕ). eqb n a.tries) (sym (c.remaining.ensures ∙ ap remaining_of m.start-s.ensures)) ∙ e in
-    c.answers.ensures ∙ sym (by _ (left _ (eq-eqb c.remaining.result c.args.tries c.if-is_same.true)))
+    ∙ ap (λ (n : ℕ). eqb n a.tries) (sym (c.remaining-left.ensures ∙ ap remaining_of m.start-s.ensures)) ∙ e in
+    c.answers.ensures ∙ sym (by _ (left _ (eq-eqb c.remaining-left.result c.args.tries c.if-is_same.true)))
 
 pub returns : goal.returns
 unfolding set_decision
@@ -63,9 +63,9 @@ returns c =
     → set_decision c.args.held c.args.room c.args.credential c.args.tries
     ≡ pick b (give 0) written = λ b e. ap (λ (x : Bool). pick x (give 0) written) e in
     let left : (b : Bool) → let w =
-    c in let a = w.args in eqb c.remaining.result a.tries ≡ b → (a.held.some && eqb (remaining_of counter) a.tries) ≡ b = λ b e. let w = c in
+    c in let a = w.args in eqb c.remaining-left.result a.tries ≡ b → (a.held.some && eqb (remaining_of counter) a.tries) ≡ b = λ b e. let w = c in
     let a = w.args in
     let m = w in
     ap (λ (x : Bool). x && eqb (remaining_of counter) a.tries) (not-false a.held.some c.if-not-held.false)
-    ∙ ap (λ (n : ℕ). eqb n a.tries) (sym (c.remaining.ensures ∙ ap remaining_of m.start-s.ensures)) ∙ e in
-    written_is ∙ sym (by _ (left _ (ne_eqb c.remaining.result c.args.tries c.if-is_same.false)))
+    ∙ ap (λ (n : ℕ). eqb n a.tries) (sym (c.remaining-left.ensures ∙ ap remaining_of m.start-s.ensures)) ∙ e in
+    written_is ∙ sym (by _ (left _ (ne_eqb c.remaining-left.result c.args.tries c.if-is_same.false)))
