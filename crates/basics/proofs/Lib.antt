@@ -3,4 +3,5 @@ pub mod ChoiceLaws
 pub mod ListsLaws
 pub mod ListsSplice
 pub mod LittleLaws
+pub mod AnswersLaws
 pub mod SaysLaws

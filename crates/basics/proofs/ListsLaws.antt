@@ -1,5 +1,5 @@
 -- Laws of the tests on lists, and of elements read one by one.
-use mathlib.Core.Path.{◌≡◌, refl, ap₂, ◌∙◌}
+use mathlib.Core.Path.{◌≡◌, refl, sym, ap, ap₂, ◌∙◌}
 use mathlib.Core.Bool.{Bool, true, false, ◌&&◌, false≢true}
 use mathlib.Core.List.{List, [], ◌∷◌, ◌++◌}
 use Prim.Native.Nat.{ℕ, zero, suc, ◌+◌, ◌≤◌, ◌<◌}
@@ -10,6 +10,8 @@ use lib.ListN.{length, get_or, take, drop, replicate, drop_of_length-le}
 use lib.Pow.{are_bytes}
 use lib.Seq.{drop-cons, take_all}
 use borrow.Author.Tests.{eq-eqb, eqb-true}
+use Rattle.std.specs.Prelude.{nat_eq}
+use Rattle.std.specs.Cmp.Lexicographic.{pointwise, same_text, other_text}
 use Rattle.basics.specs.Lists.{same, all_are, part}
 use Rattle.basics.proofs.ChoiceLaws.{both, first, second}
 
@@ -26,6 +28,24 @@ same_eq [] (y ∷ ys) e = absurd (false≢true e)
 same_eq (x ∷ xs) [] e = absurd (false≢true e)
 same_eq (x ∷ xs) (y ∷ ys) e =
     ap₂ (λ (a : ℕ) (l : List ℕ). a ∷ l) (eqb-true x y (first (eqb x y) (same xs ys) e)) (same_eq xs ys (second (eqb x y) (same xs ys) e))
+
+-- in std's word for `==` of slices
+pub same_pointwise : (xs ys : List ℕ) → same xs ys ≡ pointwise eqb xs ys
+unfolding same
+same_pointwise [] [] = refl
+same_pointwise [] (y ∷ ys) = refl
+same_pointwise (x ∷ xs) [] = refl
+same_pointwise (x ∷ xs) (y ∷ ys) = ap (λ (t : Bool). eqb x y && t) (same_pointwise xs ys)
+
+-- std's `starts_with`, and its `==` of two texts, is the same test
+pub pointwise-same : (xs ys : List ℕ) → pointwise nat_eq ys xs ≡ same xs ys
+pointwise-same xs ys = go (pointwise nat_eq ys xs) (same xs ys) refl refl
+  where
+    go : (b c : Bool) → b ≡ pointwise nat_eq ys xs → c ≡ same xs ys → b ≡ c
+    go true true e f = refl
+    go true false e f = absurd (false≢true (f ∙ ap (λ (l : List ℕ). same l ys) (sym (same_text ys xs e)) ∙ same_refl ys))
+    go false true e f = absurd (other_text ys xs e (sym (same_eq xs ys (sym f))))
+    go false false e f = refl
 
 -- ---- all_are
 pub all_replicate : (n v : ℕ) → all_are v (replicate n v) ≡ true

@@ -1,4 +1,5 @@
 // A number as two, four or eight bytes, lowest first.
+// Three functions: `to_le_bytes` stands in each type of std and in no trait, so none can be generic over the types.
 ghost use Rattle.std.specs.Prelude.{◌≡◌};
 ghost use Rattle.basics.specs.Little.{le_bytes};
 
@@ -7,7 +8,7 @@ ghost use Rattle.basics.specs.Little.{le_bytes};
 pub fn bytes2(x: u16) -> [u8; 2]
     ensures { result ≡ le_bytes 2 x }
 {
-    [(x % 256) as u8, (x / 256) as u8]
+    u16::to_le_bytes(x)
 }
 
 // The four bytes of a number, lowest first.
@@ -15,14 +16,7 @@ pub fn bytes2(x: u16) -> [u8; 2]
 pub fn bytes4(x: u32) -> [u8; 4]
     ensures { result ≡ le_bytes 4 x }
 {
-    let a = x / 256;
-    let b = a / 256;
-    [
-        (x % 256) as u8,
-        (a % 256) as u8,
-        (b % 256) as u8,
-        (b / 256) as u8,
-    ]
+    u32::to_le_bytes(x)
 }
 
 // The eight bytes of a number, lowest first.
@@ -30,20 +24,5 @@ pub fn bytes4(x: u32) -> [u8; 4]
 pub fn bytes8(x: u64) -> [u8; 8]
     ensures { result ≡ le_bytes 8 x }
 {
-    let a = x / 256;
-    let b = a / 256;
-    let c = b / 256;
-    let d = c / 256;
-    let e = d / 256;
-    let f = e / 256;
-    [
-        (x % 256) as u8,
-        (a % 256) as u8,
-        (b % 256) as u8,
-        (c % 256) as u8,
-        (d % 256) as u8,
-        (e % 256) as u8,
-        (f % 256) as u8,
-        (f / 256) as u8,
-    ]
+    u64::to_le_bytes(x)
 }

@@ -1,4 +1,4 @@
-// The number that bytes spell, lowest first.
+// The number that bytes spell, lowest first. `from_le_bytes` stands in no trait of std either.
 ghost use Rattle.std.specs.Prelude.{◌≡◌, ◌∷◌, [], ◌+◌, ◌*◌};
 ghost use Rattle.basics.specs.Little.{le_number};
 
@@ -7,7 +7,7 @@ ghost use Rattle.basics.specs.Little.{le_number};
 pub fn number4(a: u8, b: u8, c: u8, d: u8) -> u32
     ensures { result ≡ le_number (a ∷ b ∷ c ∷ d ∷ []) }
 {
-    a as u32 + 256 * b as u32 + 65536 * c as u32 + 16777216 * d as u32
+    u32::from_le_bytes([a, b, c, d])
 }
 
 // The number that two bytes spell.
@@ -15,7 +15,7 @@ pub fn number4(a: u8, b: u8, c: u8, d: u8) -> u32
 pub fn number2(a: u8, b: u8) -> u16
     ensures { result ≡ le_number (a ∷ b ∷ []) }
 {
-    a as u16 + 256 * b as u16
+    u16::from_le_bytes([a, b])
 }
 
 // The number whose low and high halves these are.

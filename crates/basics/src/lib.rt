@@ -6,15 +6,14 @@ mod le_bytes; // a number as two, four or eight bytes
 mod le_numbers; // the number that bytes spell
 
 ghost use Rattle.std.specs.Prelude.{◌≡◌};
-ghost use Rattle.basics.specs.Answers.{number_of, is_done};
+ghost use Rattle.basics.specs.Answers.{refusal_number, number_of};
 
 pub use le_bytes::{bytes2, bytes4, bytes8};
 pub use le_numbers::{joined, number2, number4};
 
-// What a call answers, in the order of the numbers 0 to 9.
-#[derive(Clone, Copy)]
-pub enum Answer {
-    Done,
+// Why a call was refused, in the order of the numbers 1 to 9.
+#[derive(Clone, Copy, Debug, PartialEq, Eq)]
+pub enum Refusal {
     BadImage,
     BadLog,
     BadId,
@@ -26,27 +25,34 @@ pub enum Answer {
     IntegrityFailure,
 }
 
-// The number of an answer in document 01's table.
+// What a call answers that hands back no value.
+pub type Answer = Result<(), Refusal>;
+
+impl Refusal {
+    // The number of a refusal in document 01's table.
+    pub fn number(self) -> u8
+        ensures { result ≡ refusal_number self }
+    {
+        match self {
+            Refusal::BadImage => 1,
+            Refusal::BadLog => 2,
+            Refusal::BadId => 3,
+            Refusal::NotFormatted => 4,
+            Refusal::ReadError => 5,
+            Refusal::WriteError => 6,
+            Refusal::EraseError => 7,
+            Refusal::KeystoreFull => 8,
+            Refusal::IntegrityFailure => 9,
+        }
+    }
+}
+
+// The number of an answer in document 01's table: 0 where it is done.
 pub fn number(answer: Answer) -> u8
     ensures { result ≡ number_of answer }
 {
     match answer {
-        Answer::Done => 0,
-        Answer::BadImage => 1,
-        Answer::BadLog => 2,
-        Answer::BadId => 3,
-        Answer::NotFormatted => 4,
-        Answer::ReadError => 5,
-        Answer::WriteError => 6,
-        Answer::EraseError => 7,
-        Answer::KeystoreFull => 8,
-        Answer::IntegrityFailure => 9,
+        Ok(()) => 0,
+        Err(refusal) => refusal.number(),
     }
-}
-
-// Whether an answer is 0: the call was done.
-pub fn is_done(answer: Answer) -> bool
-    ensures { result ≡ is_done answer }
-{
-    number(answer) == 0
 }

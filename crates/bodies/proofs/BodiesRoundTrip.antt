@@ -5,11 +5,12 @@ use native.Mathlib.Omega.{arith}
 use lib.ListN.{take}
 use borrow.Author.Tests.{le-ltb, lt-ltb}
 use Rattle.basics.specs.Little.{le_bytes, le_number}
-use Rattle.basics.specs.declared.Answer.TheVariants.{Done, WriteError}
+use Rattle.std.specs.Prelude.{Ok, Err}
+use Rattle.basics.specs.declared.Refusal.TheVariants.{WriteError}
 use Rattle.basics.proofs.LittleLaws.{le_read}
 use Rattle.ids.specs.declared.CounterState.{CounterState}
 use Rattle.ids.specs.declared.Anchor.{Anchor}
-use Rattle.ids.specs.Ids.{anchor_seq_max}
+use Rattle.ids.specs.Ids.{anchor_tag, anchor_seq_max}
 use Rattle.bodies.specs.Bodies.{counter_body, counter_in, value_body, value_in, anchor_body, anchor_in, anchor_record}
 
 -- ---- what is written is read
@@ -35,10 +36,10 @@ anchor-read a h =
     ∙ ap (λ (s : ℕ). record { format_gen = a.format_gen; head_seq = a.head_seq; head_slot = s }) (le_read 1 a.head_slot)
 
 -- an anchor has a record just where its head_seq has 48 bits
-pub anchor-made : (a : Anchor) → a.head_seq ≤ anchor_seq_max → (anchor_record a).answer ≡ Done
+pub anchor-made : (a : Anchor) → a.head_seq ≤ anchor_seq_max → anchor_record a ≡ Ok (record { tag = anchor_tag; id = 0; body = anchor_body a })
 unfolding anchor_record
 anchor-made a h = rw (le-ltb anchor_seq_max a.head_seq h)
 
-pub anchor-refused : (a : Anchor) → anchor_seq_max < a.head_seq → (anchor_record a).answer ≡ WriteError
+pub anchor-refused : (a : Anchor) → anchor_seq_max < a.head_seq → anchor_record a ≡ Err WriteError
 unfolding anchor_record
 anchor-refused a h = rw (lt-ltb anchor_seq_max a.head_seq h)

@@ -1,15 +1,14 @@
 -- "Slot layouts": bytes 2..11 of counters, values and anchors, as records and read from them.
-use Rattle.std.specs.Prelude.{List, ◌∷◌, ◌++◌, ℕ, ltb, get_or, take}
+use Rattle.std.specs.Prelude.{List, ◌∷◌, ◌++◌, ℕ, ltb, get_or, take, Result, Ok, Err}
 use Rattle.basics.specs.Choice.{pick}
 use Rattle.basics.specs.Lists.{part}
 use Rattle.basics.specs.Little.{le_bytes, le_number}
-use Rattle.basics.specs.declared.Answer.TheVariants.{Done, WriteError}
+use Rattle.basics.specs.declared.Refusal.{Refusal}
+use Rattle.basics.specs.declared.Refusal.TheVariants.{WriteError}
 use Rattle.ids.specs.declared.CounterState.{CounterState}
 use Rattle.ids.specs.declared.Anchor.{Anchor}
 use Rattle.ids.specs.Ids.{counter_tag, value_tag, anchor_tag, anchor_seq_max}
 use Rattle.codec.specs.declared.Raw.{Raw}
-use Rattle.bodies.specs.declared.AnchorRecord.{AnchorRecord}
-use Rattle.codec.specs.Slots.{no_raw}
 
 -- "counter: 52 | credential | allowance, 0 | total, at-reset"
 abbrev pub counter_body : CounterState → List ℕ
@@ -36,11 +35,10 @@ abbrev pub anchor_body : Anchor → List ℕ
 anchor_body a = le_bytes 2 a.format_gen ++ (take 6 (le_bytes 8 a.head_seq) ++ le_bytes 2 a.head_slot)
 
 -- "head_seq above 2^48 − 1 gives 6"
-unfoldable pub anchor_record : Anchor → AnchorRecord
+unfoldable pub anchor_record : Anchor → Result Raw Refusal
 anchor_record a =
-    pick (ltb anchor_seq_max a.head_seq)
-    (record { answer = WriteError; raw = no_raw })
-    (record { answer = Done; raw = record { tag = anchor_tag; id = 0; body = anchor_body a } })
+    pick (ltb anchor_seq_max a.head_seq) (Err WriteError)
+    (Ok (record { tag = anchor_tag; id = 0; body = anchor_body a }))
 
 abbrev pub anchor_in : List ℕ → Anchor
 anchor_in body =

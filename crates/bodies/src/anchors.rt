@@ -3,35 +3,26 @@
 ghost use Rattle.std.specs.Prelude.{◌≡◌};
 ghost use Rattle.bodies.specs.Bodies.{anchor_record, anchor_in};
 
-use crate::AnchorRecord;
-use basics::Answer;
+use basics::Refusal;
 use codec::Raw;
 use ids::Anchor;
 
 // The record of an anchor; a head_seq above 2^48 - 1 has none, and gives 6.
-pub fn anchor_record(anchor: Anchor) -> AnchorRecord
+pub fn anchor_record(anchor: Anchor) -> Result<Raw, Refusal>
     ensures { result ≡ anchor_record anchor }
 {
     let is_above = ids::ANCHOR_SEQ_MAX < anchor.head_seq;
     if is_above {
-        let z = Raw::none();
-        return AnchorRecord {
-            answer: Answer::WriteError,
-            raw: z,
-        };
+        return Err(Refusal::WriteError);
     }
     let g = basics::bytes2(anchor.format_gen);
     let q = basics::bytes8(anchor.head_seq);
     let s = basics::bytes2(anchor.head_slot);
-    let r = Raw {
+    Ok(Raw {
         tag: ids::ANCHOR_TAG,
         id: 0,
         body: [g[0], g[1], q[0], q[1], q[2], q[3], q[4], q[5], s[0], s[1]],
-    };
-    AnchorRecord {
-        answer: Answer::Done,
-        raw: r,
-    }
+    })
 }
 
 // The anchor in an anchor's record.

@@ -8,14 +8,3 @@ mod anchors; // an anchor, of which not every one has a record
 pub use anchors::{anchor_of, anchor_record};
 pub use counters::{counter_of, counter_record};
 pub use values::{value_of, value_record};
-
-// What stands here uses:
-use basics::Answer;
-use codec::Raw;
-
-// The record of an anchor, or why there is none.
-#[derive(Clone, Copy)]
-pub struct AnchorRecord {
-    pub answer: Answer,
-    pub raw: Raw,
-}

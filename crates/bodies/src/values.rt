@@ -12,7 +12,7 @@ pub fn value_record(id: u8, x: u64) -> Raw
     let b = basics::bytes8(x);
     Raw {
         tag: ids::VALUE_TAG,
-        id: id,
+        id,
         body: [0, 0, b[0], b[1], b[2], b[3], b[4], b[5], b[6], b[7]],
     }
 }

@@ -15,7 +15,8 @@ use Rattle.basics.proofs.ChoiceLaws.{alike, both, first, second}
 use Rattle.crc.specs.Register.{initial, crc32_of}
 use Rattle.crc.proofs.RegisterRunning.{crc_parts}
 use Rattle.codec.specs.declared.Raw.{Raw}
-use Rattle.codec.specs.Slots.{crc_under, crc_from, seq_fed, magic, magic_at, sealed, bytes_of, slot_of, decoded_with, decoded, none}
+use Rattle.codec.specs.Slots.{crc_under, crc_from, seq_fed, magic, magic_at, sealed, bytes_of, slot_of, decoded_with, decoded}
+use Rattle.std.specs.Prelude.{None}
 
 -- the checksum from the register that the seq left is the checksum under the seq
 pub from_under : (seq : ℕ) (bytes : List ℕ) → crc_from (seq_fed seq) bytes ≡ crc_under seq bytes
@@ -55,7 +56,7 @@ unfolding decoded
 decoded_from seq slot = ap (λ (check : ℕ). decoded_with check slot) (from_under seq (take 12 slot))
 
 -- an erased slot is no record
-pub erased-none : (seq : ℕ) (slot : List ℕ) → all_are 0xFF slot ≡ true → decoded seq slot ≡ none
+pub erased-none : (seq : ℕ) (slot : List ℕ) → all_are 0xFF slot ≡ true → decoded seq slot ≡ None
 unfolding decoded decoded_with all_are
 erased-none seq [] e = refl
 erased-none seq (b ∷ bs) e = rw (first (eqb b 0xFF) (all_are 0xFF bs) e, and-false)

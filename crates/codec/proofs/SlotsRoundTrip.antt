@@ -18,10 +18,9 @@ use Rattle.basics.proofs.ListsLaws.{read-part, same_eq, bytes_take, bytes_drop}
 use Rattle.basics.proofs.LittleLaws.{le_length, le_read, le_write}
 use Rattle.crc.specs.Register.{crc32_of}
 use Rattle.codec.specs.declared.Raw.{Raw}
-use Rattle.codec.specs.declared.OptRaw.{OptRaw}
-use Rattle.codec.specs.declared.Header.TheVariants.{Valid, Invalid}
+use Rattle.std.specs.Prelude.{Option, Some, None, is_some, unwrap_or}
 use Rattle.codec.specs.Slots.{sealed, crc_in, magic, magic_at, header_bytes, header_slot, is_header, header_of, crc_under, bytes_of, raw_of}
-use Rattle.codec.specs.Slots.{slot_of, is_record_with, some, none, decoded_with, decoded}
+use Rattle.codec.specs.Slots.{slot_of, is_record_with, no_raw, decoded_with, decoded}
 
 -- ---- twelve bytes and a checksum
 module _ (check : ℕ) (bytes : List ℕ) (size : length bytes ≡ 12) where
@@ -48,7 +47,7 @@ slot-parts slot size t =
 
 -- ---- records
 -- what is encoded under a seq decodes under it to the same
-pub decode_encode : (seq : ℕ) (r : Raw) → length r.body ≡ 10 → (r.tag ≡ 0xFF → ⊥) → decoded seq (slot_of seq r) ≡ some r
+pub decode_encode : (seq : ℕ) (r : Raw) → length r.body ≡ 10 → (r.tag ≡ 0xFF → ⊥) → decoded seq (slot_of seq r) ≡ Some r
 unfolding slot_of decoded decoded_with
 decode_encode seq r size tag =
     let check = crc_under seq (bytes_of r) in
@@ -56,10 +55,10 @@ decode_encode seq r size tag =
     let twelve : length (bytes_of r) ≡ 12 = omega arith in
     let body : part 2 10 slot ≡ r.body = take_at r.body (le_bytes 4 check) 10 size in
     ap (λ (c : ℕ). decoded_with c slot) (ap (crc_under seq) (sealed-bytes check (bytes_of r) twelve))
-    ∙ ap (λ (t : Bool). pick t (some (raw_of slot)) none)
+    ∙ ap (λ (t : Bool). pick t (Some (raw_of slot)) None)
     (both (eq-eqb _ _ (sealed-length check (bytes_of r) twelve))
     (both (ap not (ne_eqb r.tag 0xFF tag)) (eq-eqb _ _ (sym (sealed_crc check (bytes_of r) twelve)))))
-    ∙ ap (λ (l : List ℕ). some (record { tag = r.tag; id = r.id; body = l })) body
+    ∙ ap (λ (l : List ℕ). Some (record { tag = r.tag; id = r.id; body = l })) body
 
 -- what decodes was sealed: sixteen bytes, a tag, the record in bytes 0..11, and its checksum under the seq behind it
 pub record Sealed (seq : ℕ) (slot : List ℕ) (r : Raw) : Type 0 where
@@ -88,16 +87,16 @@ sealed-by seq slot e =
       check = sym (eqb-true check (crc_in slot) (second tagged matched rest)) ∙ ap (crc_under seq) twelve;
     }
 
-pub decode_sealed : (seq : ℕ) (slot : List ℕ) (r : Raw) → decoded seq slot ≡ some r → Sealed seq slot r
+pub decode_sealed : (seq : ℕ) (slot : List ℕ) (r : Raw) → decoded seq slot ≡ Some r → Sealed seq slot r
 unfolding decoded decoded_with
 decode_sealed seq slot r e = go (is_record_with (crc_under seq (take 12 slot)) slot) refl e
   where
-    go : (t : Bool) → is_record_with (crc_under seq (take 12 slot)) slot ≡ t → pick t (some (raw_of slot)) none ≡ some r → Sealed seq slot r
-    go true h e = rw (ap (λ (o : OptRaw). o.raw) e) at (sealed-by seq slot h)
-    go false h e = absurd (false≢true (ap (λ (o : OptRaw). o.some) e))
+    go : (t : Bool) → is_record_with (crc_under seq (take 12 slot)) slot ≡ t → pick t (Some (raw_of slot)) None ≡ Some r → Sealed seq slot r
+    go true h e = rw (ap (λ (o : Option Raw). unwrap_or o no_raw) e) at (sealed-by seq slot h)
+    go false h e = absurd (false≢true (ap (λ (o : Option Raw). is_some o) e))
 
 -- a decoded record encodes to the same sixteen bytes
-pub encode_decode : (seq : ℕ) (slot : List ℕ) (r : Raw) → T (are_bytes slot) → decoded seq slot ≡ some r → slot_of seq r ≡ slot
+pub encode_decode : (seq : ℕ) (slot : List ℕ) (r : Raw) → T (are_bytes slot) → decoded seq slot ≡ Some r → slot_of seq r ≡ slot
 unfolding slot_of
 encode_decode seq slot r t e =
     let s = decode_sealed seq slot r e in
@@ -132,14 +131,14 @@ module _ (seq : ℕ) where
       ap crc32_of (sealed-bytes (crc32_of (header_bytes seq)) (header_bytes seq) (header_twelve seq))
       ∙ sym (sealed_crc (crc32_of (header_bytes seq)) (header_bytes seq) (header_twelve seq))
 
-  pub header_read : header_of 2 (header_slot seq) ≡ Valid seq
+  pub header_read : header_of 2 (header_slot seq) ≡ Some seq
   unfolding header_of
   header_read =
-      ap (λ (t : Bool). pick t (Valid (le_number (part 4 4 (header_slot seq)))) Invalid)
+      ap (λ (t : Bool). pick t (Some (le_number (part 4 4 (header_slot seq)))) None)
       (both (eq-eqb _ _ sixteen) (both magic-at (both (eq-eqb _ _ version_at) (eq-eqb _ _ matched))))
-      ∙ ap Valid seq-at
+      ∙ ap Some seq-at
 
-  pub header_other : (version : ℕ) → (version ≡ 2 → ⊥) → header_of version (header_slot seq) ≡ Invalid
+  pub header_other : (version : ℕ) → (version ≡ 2 → ⊥) → header_of version (header_slot seq) ≡ None
   unfolding header_of
   header_other version h =
       rw (eq-eqb _ _ sixteen, magic-at, ne_eqb _ _ (λ e. h (sym e ∙ version_at)))
@@ -168,10 +167,10 @@ headed-by version slot e =
       seq-there = refl;
     }
 
-pub header_sealed : (version : ℕ) (slot : List ℕ) (seq : ℕ) → header_of version slot ≡ Valid seq → Headed version slot seq
+pub header_sealed : (version : ℕ) (slot : List ℕ) (seq : ℕ) → header_of version slot ≡ Some seq → Headed version slot seq
 unfolding header_of
 header_sealed version slot seq e = go (is_header version slot) refl e
   where
-    go : (t : Bool) → is_header version slot ≡ t → pick t (Valid (le_number (part 4 4 slot))) Invalid ≡ Valid seq → Headed version slot seq
+    go : (t : Bool) → is_header version slot ≡ t → pick t (Some (le_number (part 4 4 slot))) None ≡ Some seq → Headed version slot seq
     go true h e = let same-seq : le_number (part 4 4 slot) ≡ seq = cc in rw same-seq at (headed-by version slot h)
     go false h e = let z : ◌≡◌ {A = ℕ} 0 1 = cc in absurd (omega arith)

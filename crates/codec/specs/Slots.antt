@@ -1,13 +1,10 @@
 -- "Slot layouts (source document 000, little-endian)": headers, records and their checksums.
-use Rattle.std.specs.Prelude.{Bool, true, false, not, ◌&&◌, List, [], ◌∷◌, ◌++◌, ℕ, eqb, length, get_or, take, replicate}
+use Rattle.std.specs.Prelude.{Bool, not, ◌&&◌, List, [], ◌∷◌, ◌++◌, ℕ, eqb, length, get_or, take, replicate, Option, Some, None}
 use Rattle.basics.specs.Choice.{pick}
 use Rattle.basics.specs.Lists.{same, part}
 use Rattle.basics.specs.Little.{le_bytes, le_number}
 use Rattle.crc.specs.Register.{feed, initial, finished, crc32_of}
 use Rattle.codec.specs.declared.Raw.{Raw}
-use Rattle.codec.specs.declared.OptRaw.{OptRaw}
-use Rattle.codec.specs.declared.Header.{Header}
-use Rattle.codec.specs.declared.Header.TheVariants.{Valid, Invalid}
 
 -- "A sector has 256 slots of 16 bytes."
 abbrev pub slot_size : ℕ
@@ -41,8 +38,9 @@ abbrev pub is_header : ℕ → List ℕ → Bool
 is_header version slot =
     eqb (length slot) slot_size && (magic_at slot && (eqb (get_or slot 8 0) version && eqb (crc32_of (take 12 slot)) (crc_in slot)))
 
-unfoldable pub header_of : ℕ → List ℕ → Header
-header_of version slot = pick (is_header version slot) (Valid (le_number (part 4 4 slot))) Invalid
+-- the seq of a header, where the slot holds one
+unfoldable pub header_of : ℕ → List ℕ → Option ℕ
+header_of version slot = pick (is_header version slot) (Some (le_number (part 4 4 slot))) None
 
 -- ---- any other slot
 -- "The CRC of any other slot runs over the sector's seq (4 bytes) and then bytes 0..11."
@@ -68,17 +66,11 @@ abbrev pub is_record_with : ℕ → List ℕ → Bool
 is_record_with check slot = eqb (length slot) slot_size && (not (eqb (get_or slot 0 0) 0xFF) && eqb check (crc_in slot))
 
 -- "tag, id and body 2..11 are held as read, known or not"
-abbrev pub some : Raw → OptRaw
-some r = record { some = true; raw = r }
-
-abbrev pub none : OptRaw
-none = record { some = false; raw = no_raw }
-
-unfoldable pub decoded_with : ℕ → List ℕ → OptRaw
-decoded_with check slot = pick (is_record_with check slot) (some (raw_of slot)) none
+unfoldable pub decoded_with : ℕ → List ℕ → Option Raw
+decoded_with check slot = pick (is_record_with check slot) (Some (raw_of slot)) None
 
 -- the record in a slot of a sector with this seq
-unfoldable pub decoded : ℕ → List ℕ → OptRaw
+unfoldable pub decoded : ℕ → List ℕ → Option Raw
 decoded seq slot = decoded_with (crc_under seq (take 12 slot)) slot
 
 -- ---- the checksum run on: the register after the seq, and what twelve bytes more make of it

@@ -3,7 +3,7 @@
 ghost use Rattle.std.specs.Prelude.{◌≡◌, length};
 ghost use Rattle.codec.specs.Slots.{slot_size, header_bytes, header_slot, magic_at, header_of};
 
-use crate::{Header, SLOT, checksum, seal};
+use crate::{SLOT, checksum, seal};
 
 // The twelve bytes in front of a header's checksum: magic, seq, version, zeros.
 fn header_bytes(seq: u32) -> [u8; 12]
@@ -40,35 +40,25 @@ fn has_magic(slot: &[u8]) -> bool
     requires { length slot.now ≡ slot_size }
     ensures { result ≡ magic_at slot.now }
 {
-    let m = *b"P2RC";
-    if slot[0] != m[0] {
-        return false;
-    }
-    if slot[1] != m[1] {
-        return false;
-    }
-    if slot[2] != m[2] {
-        return false;
-    }
-    slot[3] == m[3]
+    slot.starts_with(b"P2RC")
 }
 
-// The header that a slot holds: magic, version and checksum are tested, bytes 9 to 11 are not. What isn't sixteen bytes is no header.
-pub fn decode_header(slot: &[u8], version: u8) -> Header
+// The seq of the header that a slot holds: magic, version and checksum are tested, bytes 9 to 11 are not. What isn't sixteen bytes is no header.
+pub fn decode_header(slot: &[u8], version: u8) -> Option<u32>
     ensures { result ≡ header_of version slot.now }
 {
     if slot.len() != SLOT {
-        return Header::Invalid;
+        return None;
     }
     if !has_magic(slot) {
-        return Header::Invalid;
+        return None;
     }
     let is_other = slot[8] != version;
     if is_other {
-        return Header::Invalid;
+        return None;
     }
     if checksum::check12(crc::start(), slot) != checksum::carried(slot) {
-        return Header::Invalid;
+        return None;
     }
-    Header::Valid(basics::number4(slot[4], slot[5], slot[6], slot[7]))
+    Some(basics::number4(slot[4], slot[5], slot[6], slot[7]))
 }

@@ -16,25 +16,11 @@ pub use headers::{decode_header, encode_header};
 pub use slots::{decode, decode_from, encode, encode_from};
 
 // A record's payload by tag and id: bytes 0, 1 and 2..11 of its slot.
-#[derive(Clone, Copy)]
+#[derive(Clone, Copy, Debug, PartialEq, Eq)]
 pub struct Raw {
     pub tag: u8,
     pub id: u8,
     pub body: [u8; 10],
-}
-
-// A record, or none: an enum can't hold the body's array.
-#[derive(Clone, Copy)]
-pub struct OptRaw {
-    pub some: bool,
-    pub raw: Raw,
-}
-
-// What a header slot says: its sector's seq.
-#[derive(Clone, Copy)]
-pub enum Header {
-    Valid(u32),
-    Invalid,
 }
 
 // The bytes of a slot.
@@ -48,10 +34,8 @@ pub fn is_erased(bytes: &[u8]) -> bool
     ensures { result ≡ all_are 0xFF bytes.now }
 {
     let mut all: u8 = 0xFF;
-    let mut i: usize = 0;
-    while i < bytes.len() {
-        all = all & bytes[i];
-        i += 1;
+    for b in bytes {
+        all &= *b;
     }
     all == 0xFF
 }

@@ -1,20 +1,9 @@
 // A record as a slot, both ways, under the checksum of its sector.
 // What isn't a record reads as none.
 ghost use Rattle.std.specs.Prelude.{◌≡◌, length, take};
-ghost use Rattle.codec.specs.Slots.{slot_size, crc_from, sealed, bytes_of, slot_of, raw_of, decoded_with, decoded, none};
+ghost use Rattle.codec.specs.Slots.{slot_size, crc_from, sealed, bytes_of, slot_of, raw_of, decoded_with, decoded};
 
-use crate::{OptRaw, Raw, SLOT, checksum, seal};
-
-// No record, beside a record of zeros.
-fn nothing() -> OptRaw
-    ensures { result ≡ none }
-{
-    let z = Raw::none();
-    OptRaw {
-        some: false,
-        raw: z,
-    }
-}
+use crate::{Raw, SLOT, checksum, seal};
 
 // The record that a slot's first twelve bytes spell.
 fn from_slot(s: &[u8]) -> Raw
@@ -54,25 +43,24 @@ pub fn encode(record: Raw, seq: u32) -> [u8; SLOT]
 }
 
 // The record in a slot, from the register that the sector's seq left; none where byte 0 is FF or the checksum differs.
-pub fn decode_from(slot: &[u8], start: u32) -> OptRaw
+pub fn decode_from(slot: &[u8], start: u32) -> Option<Raw>
     ensures { result ≡ decoded_with (crc_from start (take 12 slot.now)) slot.now }
 {
     if slot.len() != SLOT {
-        return nothing();
+        return None;
     }
     let is_free = slot[0] == 0xFF;
     if is_free {
-        return nothing();
+        return None;
     }
     if checksum::check12(start, slot) != checksum::carried(slot) {
-        return nothing();
+        return None;
     }
-    let r = from_slot(slot);
-    OptRaw { some: true, raw: r }
+    Some(from_slot(slot))
 }
 
 // The record in a slot of a sector with this seq.
-pub fn decode(slot: &[u8], seq: u32) -> OptRaw
+pub fn decode(slot: &[u8], seq: u32) -> Option<Raw>
     ensures { result ≡ decoded seq slot.now }
 {
     decode_from(slot, checksum::under(seq))

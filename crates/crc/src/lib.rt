@@ -21,7 +21,7 @@ fn fed(s: u32, b: u8) -> u32
     ensures { result ≡ eat s b }
 {
     let mut r = s ^ (b as u32);
-    for i in 0..8usize {
+    for _ in 0..8u32 {
         r = turned(r);
     }
     r
@@ -39,10 +39,8 @@ pub fn update(state: u32, bytes: &[u8]) -> u32
     ensures { result ≡ feed state bytes.now }
 {
     let mut s = state;
-    let mut i = 0;
-    while i < bytes.len() {
-        s = fed(s, bytes[i]);
-        i += 1;
+    for b in bytes {
+        s = fed(s, *b);
     }
     s
 }

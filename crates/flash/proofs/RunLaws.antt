@@ -1,4 +1,6 @@
 -- What a program and an erase come to on any flash, by cases: refused, stopped for want of a unit, or done whole.
+use Rattle.std.specs.Prelude.{Err}
+use Rattle.basics.specs.Answers.{all_done, Answer}
 use mathlib.Core.Path.{◌≡◌, refl, sym, ap, subst, ◌∙◌}
 use mathlib.Core.Bool.{Bool, true, false, not, ◌&&◌, ◌||◌, or-true, or-false, false≢true}
 use mathlib.Core.List.{List}
@@ -12,16 +14,15 @@ use lib.Pow.{are_bytes}
 use borrow.Author.Tests.{lt-ltb, le-ltb, ltb-true, ltb-false}
 use Rattle.basics.specs.Choice.{pick}
 use Rattle.basics.specs.Lists.{same, all_are}
-use Rattle.basics.specs.declared.Answer.{Answer}
-use Rattle.basics.specs.declared.Answer.TheVariants.{Done, WriteError, EraseError}
+use Rattle.basics.specs.declared.Refusal.TheVariants.{WriteError, EraseError}
 use Rattle.basics.proofs.ChoiceLaws.{by_test}
 use Rattle.basics.proofs.ListsLaws.{same_refl, same_eq, all_replicate}
 use Rattle.flash.specs.declared.Plan.{Plan}
 use Rattle.flash.specs.Image.{slot_at, sector_at, with_slot, with_sector}
-use Rattle.flash.specs.Power.{powered, charged, one_used_up, to_program, after_program, program_cut, to_erase, after_erase, erase_cut}
+use Rattle.flash.specs.Power.{is_limited, units_in, powered, charged, one_used_up, to_program, after_program, program_cut, to_erase, after_erase, erase_cut}
 use Rattle.flash.specs.Run.{Flash, Stepped, landed, blanked, program_answer, erase_answer, program, erase}
 use Rattle.flash.proofs.PowerLaws.{Enough, Short, drained, powered-short, charged-short, powered_enough, enough_or-short}
-use Rattle.flash.proofs.PowerLaws.{powered-most, charged-units}
+use Rattle.flash.proofs.PowerLaws.{powered-most, charged-limited, charged-units}
 use Rattle.flash.proofs.RunLanding.{landed-length, landed_none, landed-bytes, landed-new, blanked-length, blanked-all, blanked-bytes}
 use Rattle.flash.proofs.ImageView.{Fits, slot-length, slot-bytes, with-slot-same, with-slot-length, with-slot-beside}
 use Rattle.flash.proofs.ImageView.{with-slot-apart, with-slot-bytes, sector-most, sector-length, sector-bytes, with-sector-length}
@@ -31,7 +32,7 @@ use Rattle.flash.proofs.ImageView.{with-sector-apart, with-sector-bytes, erased-
 -- what a program of slot k of sector s comes to
 pub data Programmed (s k : ℕ) (new : List ℕ) (f : Flash) : Stepped → Type 0 where
   program-refused : 0 < f.plan.refuse_programs → Programmed s k new f (record {
-    answer = WriteError;
+    answer = Err WriteError;
     flash = record {
       image = f.image;
       plan = one_used_up f.plan;
@@ -41,17 +42,17 @@ pub data Programmed (s k : ℕ) (new : List ℕ) (f : Flash) : Stepped → Type 
     };
   })
   program-stopped : f.plan.refuse_programs ≡ 0 → Short f.plan 16 → Programmed s k new f (record {
-    answer = WriteError;
+    answer = Err WriteError;
     flash = record {
-      image = with_slot s k (landed f.plan.units new (slot_at f.image s k)) f.image;
+      image = with_slot s k (landed (units_in f.plan) new (slot_at f.image s k)) f.image;
       plan = drained f.plan;
-      programmed = f.programmed + f.plan.units;
+      programmed = f.programmed + units_in f.plan;
       erased = f.erased;
       cut = true;
     };
   })
   program-whole : f.plan.refuse_programs ≡ 0 → Enough f.plan 16 → Programmed s k new f (record {
-    answer = pick (same (landed 16 new (slot_at f.image s k)) new) Done WriteError;
+    answer = pick (same (landed 16 new (slot_at f.image s k)) new) all_done (Err WriteError);
     flash = record {
       image = with_slot s k (landed 16 new (slot_at f.image s k)) f.image;
       plan = charged f.plan 16;
@@ -71,21 +72,21 @@ program-outcome s k new f = go (ltb 0 f.plan.refuse_programs) refl
         rw (runs, powered_enough f.plan 16 h, or-false) (program-whole e h)
     powers e (inr h) =
         let runs = le-ltb 0 f.plan.refuse_programs (omega arith) in
-        rw (runs, charged-short f.plan 16 h, powered-short f.plan 16 h, lt-ltb f.plan.units 16 h.1, or-true) (program-stopped e h)
+        rw (runs, charged-short f.plan 16 h, powered-short f.plan 16 h, lt-ltb (units_in f.plan) 16 h.1, or-true) (program-stopped e h)
 
     go : (b : Bool) → ltb 0 f.plan.refuse_programs ≡ b → Programmed s k new f (program s k new f)
     go true e = rw (e, landed_none, with-slot-same, add-zero, or-false) (program-refused (ltb-true 0 f.plan.refuse_programs e))
     go false e = powers (omega (arith, ltb-false 0 f.plan.refuse_programs e)) (enough_or-short f.plan 16)
 
 -- what is found after all sixteen bytes is new just where the answer is Done
-pub done-found : (found new : List ℕ) → pick (same found new) Done WriteError ≡ Done → found ≡ new
+pub done-found : (found new : List ℕ) → pick (same found new) all_done (Err WriteError) ≡ all_done → found ≡ new
 done-found found new e = go (same found new) refl e
   where
-    go : (b : Bool) → same found new ≡ b → pick b Done WriteError ≡ Done → found ≡ new
+    go : (b : Bool) → same found new ≡ b → pick b all_done (Err WriteError) ≡ all_done → found ≡ new
     go true h e = same_eq found new h
     go false h e = let z : ◌≡◌ {A = ℕ} 0 1 = cc in absurd (omega arith)
 
-pub found-done : (found new : List ℕ) → found ≡ new → pick (same found new) Done WriteError ≡ Done
+pub found-done : (found new : List ℕ) → found ≡ new → pick (same found new) all_done (Err WriteError) ≡ all_done
 found-done found new e = rw (e, same_refl new)
 
 -- over a blank slot sixteen bytes land as they are
@@ -98,19 +99,19 @@ blank_lands new old size t e =
 -- ---- erase
 -- what an erase of sector s comes to
 pub data Erased (s : ℕ) (f : Flash) : Stepped → Type 0 where
-  erase-refused : f.plan.refuse_erase ≡ true → Erased s f (record { answer = EraseError; flash = f })
+  erase-refused : f.plan.refuse_erase ≡ true → Erased s f (record { answer = Err EraseError; flash = f })
   erase-stopped : f.plan.refuse_erase ≡ false → Short f.plan 4096 → Erased s f (record {
-    answer = EraseError;
+    answer = Err EraseError;
     flash = record {
-      image = with_sector s (blanked f.plan.units (sector_at f.image s)) f.image;
+      image = with_sector s (blanked (units_in f.plan) (sector_at f.image s)) f.image;
       plan = drained f.plan;
       programmed = f.programmed;
-      erased = f.erased + f.plan.units;
+      erased = f.erased + units_in f.plan;
       cut = true;
     };
   })
   erase-whole : f.plan.refuse_erase ≡ false → Enough f.plan 4096 → Erased s f (record {
-    answer = Done;
+    answer = all_done;
     flash = record {
       image = with_sector s (blanked 4096 (sector_at f.image s)) f.image;
       plan = charged f.plan 4096;
@@ -146,7 +147,7 @@ erase-outcome s f = go f.plan.refuse_erase refl
     powers e (inl h) =
         subst (λ (n : ℕ). Erased s f (erase_by s f false n)) (sym (powered_enough f.plan 4096 h)) (rw (all, or-false) (erase-whole e h))
     powers e (inr h) =
-        rw (charged-short f.plan 4096 h, powered-short f.plan 4096 h, lt-ltb f.plan.units 4096 h.1, or-true) (erase-stopped e h)
+        rw (charged-short f.plan 4096 h, powered-short f.plan 4096 h, lt-ltb (units_in f.plan) 4096 h.1, or-true) (erase-stopped e h)
 
     go : (b : Bool) → f.plan.refuse_erase ≡ b → Erased s f (erase_by s f b (powered f.plan 4096))
     go true e = rw (erased-none, add-zero, or-false) (erase-refused e)
@@ -245,9 +246,9 @@ module _ (s : ℕ) (f : Flash) where
 -- ---- power
 -- what a step keeps: whether power is limited; where it is, units and counts together; where it is not, nothing is cut
 pub record Paid (f g : Flash) : Type 0 where
-  pub limited : g.plan.limited ≡ f.plan.limited
-  pub units : f.plan.limited ≡ true → g.plan.units + (g.programmed + g.erased) ≡ f.plan.units + (f.programmed + f.erased)
-  pub uncut : f.plan.limited ≡ false → g.cut ≡ f.cut
+  pub limited : is_limited g.plan ≡ is_limited f.plan
+  pub units : is_limited f.plan ≡ true → units_in g.plan + (g.programmed + g.erased) ≡ units_in f.plan + (f.programmed + f.erased)
+  pub uncut : is_limited f.plan ≡ false → g.cut ≡ f.cut
 
 pub program_paid : (s k : ℕ) (new : List ℕ) (f : Flash) → Paid f (program s k new f).flash
 program_paid s k new f = go (program-outcome s k new f)
@@ -257,7 +258,7 @@ program_paid s k new f = go (program-outcome s k new f)
     go (program-stopped e h) =
         record { limited = sym h.0; units = λ _. omega arith; uncut = λ free. absurd (false≢true (sym free ∙ h.0)) }
     go (program-whole e h) =
-        record { limited = refl; units = λ l. omega (arith, h l, charged-units f.plan 16 l); uncut = λ _. refl }
+        record { limited = charged-limited f.plan 16; units = λ l. omega (arith, h l, charged-units f.plan 16 l); uncut = λ _. refl }
 
 pub erase_paid : (s : ℕ) (f : Flash) → Paid f (erase s f).flash
 erase_paid s f = go (erase-outcome s f)
@@ -267,11 +268,11 @@ erase_paid s f = go (erase-outcome s f)
     go (erase-stopped e h) =
         record { limited = sym h.0; units = λ _. omega arith; uncut = λ free. absurd (false≢true (sym free ∙ h.0)) }
     go (erase-whole e h) =
-        record { limited = refl; units = λ l. omega (arith, h l, charged-units f.plan 4096 l); uncut = λ _. refl }
+        record { limited = charged-limited f.plan 4096; units = λ l. omega (arith, h l, charged-units f.plan 4096 l); uncut = λ _. refl }
 
 -- ---- a flash without power, as a stop leaves it
 abbrev pub Dead : Flash → Type 0
-Dead f = (f.plan.limited ≡ true) × (f.plan.units ≡ 0)
+Dead f = (is_limited f.plan ≡ true) × (units_in f.plan ≡ 0)
 
 -- a step on it fails, changes no byte and counts nothing, and leaves it without power
 pub record Idle (failure : Answer) (f : Flash) (r : Stepped) : Type 0 where
@@ -281,10 +282,10 @@ pub record Idle (failure : Answer) (f : Flash) (r : Stepped) : Type 0 where
   pub erased : r.flash.erased ≡ f.erased
   pub dead : Dead r.flash
 
-pub program-dead : (s k : ℕ) (new : List ℕ) (f : Flash) → Dead f → Idle WriteError f (program s k new f)
+pub program-dead : (s k : ℕ) (new : List ℕ) (f : Flash) → Dead f → Idle (Err WriteError) f (program s k new f)
 program-dead s k new f d = go (program-outcome s k new f)
   where
-    go : {r : Stepped} → Programmed s k new f r → Idle WriteError f r
+    go : {r : Stepped} → Programmed s k new f r → Idle (Err WriteError) f r
     go (program-refused h) = record { answer = refl; image = refl; programmed = refl; erased = refl; dead = d }
     go (program-stopped e h) =
         record {
@@ -296,10 +297,10 @@ program-dead s k new f d = go (program-outcome s k new f)
         }
     go (program-whole e h) = absurd (omega (arith, h d.0))
 
-pub erase-dead : (s : ℕ) (f : Flash) → Dead f → Idle EraseError f (erase s f)
+pub erase-dead : (s : ℕ) (f : Flash) → Dead f → Idle (Err EraseError) f (erase s f)
 erase-dead s f d = go (erase-outcome s f)
   where
-    go : {r : Stepped} → Erased s f r → Idle EraseError f r
+    go : {r : Stepped} → Erased s f r → Idle (Err EraseError) f r
     go (erase-refused h) = record { answer = refl; image = refl; programmed = refl; erased = refl; dead = d }
     go (erase-stopped e h) =
         record {

@@ -1,10 +1,10 @@
 -- What a program and an erase do to an image, step by step. `cut` says that one of them stopped for want of a unit.
-use Rattle.std.specs.Prelude.{Bool, ◌||◌, List, [], ◌∷◌, ◌++◌, ℕ, zero, suc, ◌+◌, ltb, drop, replicate}
+use Rattle.std.specs.Prelude.{Err, Bool, ◌||◌, List, [], ◌∷◌, ◌++◌, ℕ, zero, suc, ◌+◌, ltb, drop, replicate}
+use Rattle.basics.specs.Answers.{all_done, Answer}
 use Rattle.std.specs.Int.Bits.{bit_and}
 use Rattle.basics.specs.Choice.{pick}
 use Rattle.basics.specs.Lists.{same, all_are}
-use Rattle.basics.specs.declared.Answer.{Answer}
-use Rattle.basics.specs.declared.Answer.TheVariants.{Done, WriteError, EraseError}
+use Rattle.basics.specs.declared.Refusal.TheVariants.{WriteError, EraseError}
 use Rattle.codec.specs.Slots.{slot_size}
 use Rattle.flash.specs.declared.Plan.{Plan}
 use Rattle.flash.specs.Image.{sector_size, slot_at, sector_at, with_slot, with_sector}
@@ -31,7 +31,7 @@ landed (suc n) (x ∷ new) (o ∷ old) = bit_and o x ∷ landed n new old
 
 -- "with no unit left it stops with 6"; "read it back (another content is a failure, 6)"
 abbrev pub program_answer : ℕ → List ℕ → List ℕ → Answer
-program_answer n new found = pick (ltb n slot_size) WriteError (pick (same found new) Done WriteError)
+program_answer n new found = pick (ltb n slot_size) (Err WriteError) (pick (same found new) all_done (Err WriteError))
 
 -- program slot k of sector s, and read it back
 unfoldable pub program : ℕ → ℕ → List ℕ → Flash → Stepped
@@ -55,7 +55,7 @@ blanked n old = replicate n 0xFF ++ drop n old
 
 -- "with no unit left it stops with 7"; then "check all erased"
 abbrev pub erase_answer : ℕ → List ℕ → Answer
-erase_answer n found = pick (ltb n sector_size) EraseError (pick (all_are 0xFF found) Done EraseError)
+erase_answer n found = pick (ltb n sector_size) (Err EraseError) (pick (all_are 0xFF found) all_done (Err EraseError))
 
 -- erase sector s, and check that all of it is erased
 unfoldable pub erase : ℕ → Flash → Stepped

@@ -5,18 +5,14 @@ ghost use Rattle.flash.specs.Image.{sector_size, sector_at, with_sector};
 ghost use Rattle.flash.specs.Run.{blanked, erase_answer};
 
 use crate::SECTOR;
-use basics::Answer;
+use basics::{Answer, Refusal};
 
 // The first n bytes become FF.
 fn blank(part: &mut [u8], n: usize)
     requires { n ≤ length part.old }
     ensures { part.new ≡ blanked n part.old }
 {
-    let mut i: usize = 0;
-    while i < n {
-        part[i] = 0xFF;
-        i += 1;
-    }
+    part[..n].fill(0xFF);
 }
 
 // Erase n bytes of a sector, and check all of it where that is all of it.
@@ -29,11 +25,11 @@ pub fn erase_sector(image: &mut [u8], sector: usize, n: usize) -> Answer
     let e = a + SECTOR;
     blank(&mut image[a..e], n);
     if n < SECTOR {
-        return Answer::EraseError;
+        return Err(Refusal::EraseError);
     }
     if codec::is_erased(&image[a..e]) {
-        Answer::Done
+        Ok(())
     } else {
-        Answer::EraseError
+        Err(Refusal::EraseError)
     }
 }

@@ -4,39 +4,33 @@ use mathlib.Core.Bool.{Bool, true, false, not, ◌&&◌, ◌||◌, false≢true}
 use mathlib.Core.Logic.{◌↔◌}
 use mathlib.Core.List.{List, [], ◌∷◌}
 use Prim.Native.Nat.{ℕ, zero, suc, ◌+◌, ◌-◌, ◌≤◌, ◌<◌}
-use native.Mathlib.Numerals.{add-one}
 use native.Mathlib.Omega.{arith}
 use lib.Dec.{eqb, ltb}
-use lib.ListN.{length, get_or, drop, drop_of_length-le}
-use lib.Seq.{drop-cons}
+use lib.ListN.{length, get_or}
 use borrow.Author.Tests.{eq-eqb, ne_eqb, eqb-true, eqb-false, lt-ltb, le-ltb, ltb-true, ltb-false, not-true}
 use Rattle.basics.specs.Choice.{pick}
 use Rattle.basics.proofs.ChoiceLaws.{first, second, by_test, pick_through}
-use Rattle.basics.specs.declared.Answer.TheVariants.{WriteError}
-use Rattle.ids.specs.declared.Place.{Place}
-use Rattle.ids.specs.declared.Place.TheVariants.{At, Unknown}
+use Rattle.basics.specs.Says.{result_says}
+use Rattle.basics.specs.declared.Refusal.{Refusal}
+use Rattle.basics.specs.declared.Refusal.TheVariants.{WriteError}
+use Rattle.std.specs.Prelude.{cond, Option, Some, None, is_some, Result, Ok, Err}
+use Rattle.std.specs.List.{position_from}
 use Rattle.ids.specs.declared.Meaning.{Meaning}
 use Rattle.ids.specs.declared.Meaning.TheVariants as meaning
 use Rattle.ids.specs.declared.CounterState.{CounterState}
-use Rattle.ids.specs.declared.Next.{Next}
-use Rattle.ids.specs.declared.Next.TheVariants.{State, Refused}
-use Rattle.ids.specs.Ids.{counter_tag, value_tag, anchor_tag, credentials, place_from, place_of, is_place, is_credential, is_value, may_fall}
+use Rattle.ids.specs.Ids.{counter_tag, value_tag, anchor_tag, credentials, place_from, place_of, is_credential, is_value, may_fall}
 use Rattle.ids.specs.Ids.{is_monotonic, credential_meaning, value_meaning, meaning_of}
-use Rattle.ids.specs.Counters.{fresh_of, remaining_of, total_max, one_more, failed_of, reset_of, failed_says, next_says}
+use Rattle.ids.specs.Counters.{fresh_of, remaining_of, total_max, one_more, failed_of, reset_of, failed_says}
 
--- ---- a search of the table, from place i on
-module _ (l : List ℕ) (i x : ℕ) where
-  pub place_end : length l ≤ i → place_from i (drop i l) x ≡ Unknown
-  unfolding place_from
-  place_end h = rw (drop_of_length-le l h)
-
-  pub place-hit : i < length l → get_or l i 0 ≡ x → place_from i (drop i l) x ≡ At i
-  unfolding place_from
-  place-hit h e = rw (drop-cons l i 0 h, eq-eqb _ _ e)
-
-  pub place-miss : i < length l → (get_or l i 0 ≡ x → ⊥) → place_from i (drop i l) x ≡ place_from (i + 1) (drop (i + 1) l) x
-  unfolding place_from
-  place-miss h e = rw (drop-cons l i 0 h, ne_eqb _ _ e, add-one)
+-- ---- a search of the table is std's, for the first that is this number
+pub place-position : (l : List ℕ) (i x : ℕ) → position_from (λ c. eqb c x) i l ≡ place_from i l x
+unfolding place_from
+place-position [] i x = refl
+place-position (c ∷ cs) i x = go (eqb c x) (position_from (λ d. eqb d x) (i + 1) cs) (place_from (i + 1) cs x) (place-position cs (i + 1) x)
+  where
+    go : (b : Bool) (p q : Option ℕ) → p ≡ q → cond b (Some i) p ≡ pick b (Some i) q
+    go true p q e = refl
+    go false p q e = e
 
 -- ---- the numbers of the table are distinct
 unfoldable pub is_in : ℕ → List ℕ → Bool
@@ -62,24 +56,24 @@ not_in x [] i e h = absurd (omega arith)
 not_in x (y ∷ ys) zero e h = eqb-false x y (neither (eqb x y) (is_in x ys) e).0
 not_in x (y ∷ ys) (suc i) e h = not_in x ys i (neither (eqb x y) (is_in x ys) e).1 (omega arith)
 
-place_from_held : (k : ℕ) (l : List ℕ) → distinct l ≡ true → (i : ℕ) → i < length l → place_from k l (get_or l i 0) ≡ At (k + i)
+place_from_held : (k : ℕ) (l : List ℕ) → distinct l ≡ true → (i : ℕ) → i < length l → place_from k l (get_or l i 0) ≡ Some (k + i)
 unfolding distinct place_from
 place_from_held k [] d i h = absurd (omega arith)
-place_from_held k (x ∷ xs) d zero h = rw (eq-eqb x x refl) (ap At (omega arith))
+place_from_held k (x ∷ xs) d zero h = rw (eq-eqb x x refl) (ap Some (omega arith))
 place_from_held k (x ∷ xs) d (suc i) h =
     let other = not-true (is_in x xs) (first (not (is_in x xs)) (distinct xs) d) in
     rw (ne_eqb x (get_or xs i 0) (not_in x xs i other (omega arith)))
-    (place_from_held (k + 1) xs (second (not (is_in x xs)) (distinct xs) d) i (omega arith) ∙ ap At (omega arith))
+    (place_from_held (k + 1) xs (second (not (is_in x xs)) (distinct xs) d) i (omega arith) ∙ ap Some (omega arith))
 
 -- each number is found at its own place
-pub place-held : (l : List ℕ) → distinct l ≡ true → (i : ℕ) → i < length l → place_of l (get_or l i 0) ≡ At i
-place-held l d i h = place_from_held 0 l d i h ∙ ap At (omega arith)
+pub place-held : (l : List ℕ) → distinct l ≡ true → (i : ℕ) → i < length l → place_of l (get_or l i 0) ≡ Some i
+place-held l d i h = place_from_held 0 l d i h ∙ ap Some (omega arith)
 
-place_from_found : (k : ℕ) (l : List ℕ) (x i : ℕ) → place_from k l x ≡ At i → (k ≤ i) × (i - k < length l) × (get_or l (i - k) 0 ≡ x)
+place_from_found : (k : ℕ) (l : List ℕ) (x i : ℕ) → place_from k l x ≡ Some i → (k ≤ i) × (i - k < length l) × (get_or l (i - k) 0 ≡ x)
 unfolding place_from
 place_from_found k [] x i e = let z : ◌≡◌ {A = ℕ} 0 1 = cc in absurd (omega arith)
 place_from_found k (c ∷ cs) x i e =
-    by_test (λ (p : Place). p ≡ At i → (k ≤ i) × (i - k < length (c ∷ cs)) × (get_or (c ∷ cs) (i - k) 0 ≡ x)) (eqb c x) (At k) (place_from (k + 1) cs x)
+    by_test (λ (p : Option ℕ). p ≡ Some i → (k ≤ i) × (i - k < length (c ∷ cs)) × (get_or (c ∷ cs) (i - k) 0 ≡ x)) (eqb c x) (Some k) (place_from (k + 1) cs x)
     (λ t q. let same : k ≡ i = cc in let here : i - k ≡ 0 = omega arith in (omega arith, omega arith, rw here (eqb-true c x t)))
     (λ t q.
     let f = place_from_found (k + 1) cs x i q in
@@ -88,29 +82,29 @@ place_from_found k (c ∷ cs) x i e =
     e
 
 -- and what is found there is the number
-pub place_found : (l : List ℕ) (x i : ℕ) → place_of l x ≡ At i → (i < length l) × (get_or l i 0 ≡ x)
+pub place_found : (l : List ℕ) (x i : ℕ) → place_of l x ≡ Some i → (i < length l) × (get_or l i 0 ≡ x)
 place_found l x i e =
     let f = place_from_found 0 l x i e in
     let same : i - 0 ≡ i = omega arith in
     (omega arith, rw same at f.2)
 
 -- ---- what a tag and id mean
-pub credential_place : (x i : ℕ) → meaning_of counter_tag x ≡ meaning.Credential i → place_of credentials x ≡ At i
+pub credential_place : (x i : ℕ) → meaning_of counter_tag x ≡ meaning.Credential i → place_of credentials x ≡ Some i
 unfolding meaning_of
 credential_place x i = place (place_of credentials x)
   where
-    place : (p : Place) → credential_meaning p ≡ meaning.Credential i → p ≡ At i
-    place (At j) e = let same : j ≡ i = cc in ap At same
-    place Unknown e = let z : ◌≡◌ {A = ℕ} 0 1 = cc in absurd (omega arith)
+    place : (p : Option ℕ) → credential_meaning p ≡ meaning.Credential i → p ≡ Some i
+    place (Some j) e = let same : j ≡ i = cc in ap Some same
+    place None e = let z : ◌≡◌ {A = ℕ} 0 1 = cc in absurd (omega arith)
 
 -- a credential is what means some credential under the counters' tag
 pub credential_meant : (x : ℕ) → (is_credential x ≡ true) ↔ ((i : ℕ) × (meaning_of counter_tag x ≡ meaning.Credential i))
 unfolding meaning_of
-credential_meant x = (some (place_of credentials x), λ m. ap is_place (credential_place x m.0 m.1))
+credential_meant x = (some (place_of credentials x), λ m. ap is_some (credential_place x m.0 m.1))
   where
-    some : (p : Place) → is_place p ≡ true → (i : ℕ) × (credential_meaning p ≡ meaning.Credential i)
-    some (At i) e = (i, refl)
-    some Unknown e = absurd (false≢true e)
+    some : (p : Option ℕ) → is_some p ≡ true → (i : ℕ) × (credential_meaning p ≡ meaning.Credential i)
+    some (Some i) e = (i, refl)
+    some None e = absurd (false≢true e)
 
 -- the meaning of a value that may only grow
 abbrev pub grows : Meaning → Bool
@@ -126,13 +120,13 @@ monotonic_meant t d =
     cases (eqb t counter_tag) (eqb t value_tag) (is_value d) (may_fall d) (eqb t anchor_tag && eqb d 0) (place_of credentials d)
     (λ e. ne_eqb t value_tag (λ f. let u = eqb-true t counter_tag e in omega arith))
   where
-    cases : (counter value known falls anchor : Bool) (p : Place) → (counter ≡ true → value ≡ false)
+    cases : (counter value known falls anchor : Bool) (p : Option ℕ) → (counter ≡ true → value ≡ false)
         → grows
         (pick counter (credential_meaning p)
         (pick value (pick known (pick falls meaning.Free meaning.Monotonic) meaning.Unknown) (pick anchor meaning.Anchor meaning.Unknown)))
         ≡ (value && (known && not falls))
-    cases true value known falls anchor (At i) h = rw (h refl)
-    cases true value known falls anchor Unknown h = rw (h refl)
+    cases true value known falls anchor (Some i) h = rw (h refl)
+    cases true value known falls anchor None h = rw (h refl)
     cases false true true true anchor p h = refl
     cases false true true false anchor p h = refl
     cases false true false falls anchor p h = refl
@@ -176,25 +170,25 @@ pub remaining-some : (s : CounterState) → 0 < remaining_of s → s.at_reset �
 remaining-some s = remaining-cases (λ (r : ℕ). 0 < r → s.at_reset ≤ s.total) s (λ h some. absurd (omega arith)) (λ h some. h)
 
 -- ---- a failure
-pub failed-full : (s : CounterState) → s.total ≡ total_max → failed_of s ≡ Refused WriteError
+pub failed-full : (s : CounterState) → s.total ≡ total_max → failed_of s ≡ Err WriteError
 unfolding failed_of
 failed-full s e = rw (eq-eqb s.total total_max e)
 
-pub failed_more : (s : CounterState) → (s.total ≡ total_max → ⊥) → failed_of s ≡ State (one_more s)
+pub failed_more : (s : CounterState) → (s.total ≡ total_max → ⊥) → failed_of s ≡ Ok (one_more s)
 unfolding failed_of
 failed_more s h = rw (ne_eqb s.total total_max h)
 
-pub failed-state : (s n : CounterState) → failed_of s ≡ State n → n ≡ one_more s
+pub failed-state : (s n : CounterState) → failed_of s ≡ Ok n → n ≡ one_more s
 unfolding failed_of
 failed-state s n =
-    by_test (λ (x : Next). x ≡ State n → n ≡ one_more s) (eqb s.total total_max) (Refused WriteError) (State (one_more s))
+    by_test (λ (x : Result CounterState Refusal). x ≡ Ok n → n ≡ one_more s) (eqb s.total total_max) (Err WriteError) (Ok (one_more s))
     (λ t e. let z : ◌≡◌ {A = ℕ} 0 1 = cc in absurd (omega arith))
     (λ t e. (cc))
 
 -- what it says in numbers: 6 at the maximum, else 0 and the next state
-pub failed-says : (s : CounterState) → next_says (failed_of s) ≡ failed_says s
+pub failed-says : (s : CounterState) → result_says (failed_of s) ≡ failed_says s
 unfolding failed_of failed_says
-failed-says s = pick_through next_says (eqb s.total total_max) (Refused WriteError) (State (one_more s))
+failed-says s = pick_through result_says (eqb s.total total_max) (Err WriteError) (Ok (one_more s))
 
 module _ (s : CounterState) where
   failure_takes : s.at_reset ≤ s.total → remaining_of (one_more s) ≡ remaining_of s - 1

@@ -1,12 +1,10 @@
 -- "Tries": "A counter hands back its next value after a failure or a reset."
-use Rattle.std.specs.Prelude.{ℕ, ◌+◌, ◌-◌, eqb, ltb}
+use Rattle.std.specs.Prelude.{ℕ, ◌+◌, ◌-◌, eqb, ltb, Result, Ok, Err}
 use Rattle.basics.specs.Choice.{pick}
-use Rattle.basics.specs.Answers.{number_of}
 use Rattle.basics.specs.Says.{Says, says_refused, says_held}
-use Rattle.basics.specs.declared.Answer.TheVariants.{WriteError}
+use Rattle.basics.specs.declared.Refusal.{Refusal}
+use Rattle.basics.specs.declared.Refusal.TheVariants.{WriteError}
 use Rattle.ids.specs.declared.CounterState.{CounterState}
-use Rattle.ids.specs.declared.Next.{Next}
-use Rattle.ids.specs.declared.Next.TheVariants.{State, Refused}
 
 -- a credential that nobody has tried yet
 abbrev pub fresh_of : ℕ → CounterState
@@ -23,16 +21,12 @@ total_max = 4_294_967_295
 abbrev pub one_more : CounterState → CounterState
 one_more s = record { total = s.total + 1; at_reset = s.at_reset; allowance = s.allowance }
 
-unfoldable pub failed_of : CounterState → Next
-failed_of s = pick (eqb s.total total_max) (Refused WriteError) (State (one_more s))
+unfoldable pub failed_of : CounterState → Result CounterState Refusal
+failed_of s = pick (eqb s.total total_max) (Err WriteError) (Ok (one_more s))
 
--- in the paper's numbers: what a failure comes to, and each case of the answer
+-- in the paper's numbers: what a failure comes to
 unfoldable pub failed_says : CounterState → Says CounterState
 failed_says s = pick (eqb s.total total_max) (says_refused 6) (says_held (one_more s))
-
-abbrev pub next_says : Next → Says CounterState
-next_says (State s) = says_held s
-next_says (Refused a) = says_refused (number_of a)
 
 -- after a reset: "at-reset becomes total and the allowance that number"
 abbrev pub reset_of : CounterState → ℕ → CounterState

@@ -1,8 +1,6 @@
 -- "Slot layouts": credentials, value ids, tags, and what a tag and id mean.
-use Rattle.std.specs.Prelude.{Bool, true, false, not, ◌&&◌, ◌||◌, List, [], ◌∷◌, ℕ, ◌+◌, ◌-◌, ◌^◌, eqb, leb}
+use Rattle.std.specs.Prelude.{Bool, not, ◌&&◌, ◌||◌, List, [], ◌∷◌, ℕ, ◌+◌, ◌-◌, ◌^◌, eqb, leb, Option, Some, None, is_some}
 use Rattle.basics.specs.Choice.{pick}
-use Rattle.ids.specs.declared.Place.{Place}
-use Rattle.ids.specs.declared.Place.TheVariants as place
 use Rattle.ids.specs.declared.Meaning.{Meaning}
 use Rattle.ids.specs.declared.Meaning.TheVariants as meaning
 
@@ -25,20 +23,16 @@ abbrev pub credentials : List ℕ
 credentials = 0x01 ∷ 0x02 ∷ 0x03 ∷ 0x11 ∷ 0x12 ∷ 0x21 ∷ 0x22 ∷ []
 
 -- the first place that holds x, in a list whose places count from i
-unfoldable pub place_from : ℕ → List ℕ → ℕ → Place
-place_from i [] x = place.Unknown
-place_from i (c ∷ cs) x = pick (eqb c x) (place.At i) (place_from (i + 1) cs x)
+unfoldable pub place_from : ℕ → List ℕ → ℕ → Option ℕ
+place_from i [] x = None
+place_from i (c ∷ cs) x = pick (eqb c x) (Some i) (place_from (i + 1) cs x)
 
-abbrev pub place_of : List ℕ → ℕ → Place
+abbrev pub place_of : List ℕ → ℕ → Option ℕ
 place_of = place_from 0
-
-abbrev pub is_place : Place → Bool
-is_place (place.At i) = true
-is_place place.Unknown = false
 
 -- a credential is a number of the table
 abbrev pub is_credential : ℕ → Bool
-is_credential x = is_place (place_of credentials x)
+is_credential x = is_some (place_of credentials x)
 
 -- "Value ids 1..8: Lamport, PoolClock, PoolConfig, PoolSeq, SignatureCounter, StoreDegradedOpens, StoreReanchors, StoreLastReanchor."
 abbrev pub lamport : ℕ
@@ -77,9 +71,9 @@ unfoldable pub is_monotonic : ℕ → ℕ → Bool
 is_monotonic t d = eqb t value_tag && (is_value d && not (may_fall d))
 
 -- "What a tag and id mean is decided by cases."
-abbrev pub credential_meaning : Place → Meaning
-credential_meaning (place.At i) = meaning.Credential i
-credential_meaning place.Unknown = meaning.Unknown
+abbrev pub credential_meaning : Option ℕ → Meaning
+credential_meaning (Some i) = meaning.Credential i
+credential_meaning None = meaning.Unknown
 
 unfoldable pub value_meaning : ℕ → Meaning
 value_meaning d = pick (is_value d) (pick (may_fall d) meaning.Free meaning.Monotonic) meaning.Unknown

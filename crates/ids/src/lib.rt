@@ -8,9 +8,10 @@ pub use meanings::{is_credential, is_monotonic, is_value, meaning_of};
 
 // What stands here uses:
 ghost use Rattle.std.specs.Prelude.{◌≡◌};
-ghost use Rattle.ids.specs.Counters.{fresh_of, remaining_of, failed_of, failed_says, next_says, reset_of};
+ghost use Rattle.basics.specs.Says.{result_says};
+ghost use Rattle.ids.specs.Counters.{fresh_of, remaining_of, failed_of, failed_says, reset_of};
 
-use basics::Answer;
+use basics::Refusal;
 
 // The ids of the device values; the numbers stand on flash, so they never change.
 pub const LAMPORT: u8 = 1;
@@ -42,15 +43,8 @@ const TOTAL_MAX: u32 = 4_294_967_295;
 // The highest head_seq that fits the 48 bits of an anchor record.
 pub const ANCHOR_SEQ_MAX: u64 = 281_474_976_710_655;
 
-// Where a number stands in the table of credentials.
-#[derive(Clone, Copy)]
-enum Place {
-    At(usize),
-    Unknown,
-}
-
 // What a tag and id mean; a free value may fall, a monotonic one may not.
-#[derive(Clone, Copy)]
+#[derive(Clone, Copy, Debug, PartialEq, Eq)]
 pub enum Meaning {
     Credential(usize),
     Monotonic,
@@ -60,22 +54,15 @@ pub enum Meaning {
 }
 
 // The counter of one credential: failures ever, their number at the last reset, and the tries granted then.
-#[derive(Clone, Copy)]
+#[derive(Clone, Copy, Debug, PartialEq, Eq)]
 pub struct CounterState {
     pub total: u32,
     pub at_reset: u32,
     pub allowance: u8,
 }
 
-// The state that follows, or why there is none.
-#[derive(Clone, Copy)]
-pub enum Next {
-    State(CounterState),
-    Refused(Answer),
-}
-
 // The head of a key store's log, by which the store is found again.
-#[derive(Clone, Copy)]
+#[derive(Clone, Copy, Debug, PartialEq, Eq)]
 pub struct Anchor {
     pub format_gen: u16,
     pub head_seq: u64,
@@ -112,16 +99,15 @@ impl CounterState {
     }
 
     // The counter after one failure more. At the highest total it is refused: a total that wrapped would hand back tries.
-    pub fn after_failure(self) -> Next
-        ensures { (result ≡ failed_of self) × (next_says result ≡ failed_says self) }
+    pub fn after_failure(self) -> Result<CounterState, Refusal>
+        ensures { (result ≡ failed_of self) × (result_says result ≡ failed_says self) }
     {
         if self.total == TOTAL_MAX {
-            return Next::Refused(Answer::WriteError);
+            return Err(Refusal::WriteError);
         }
-        Next::State(CounterState {
+        Ok(CounterState {
             total: self.total + 1,
-            at_reset: self.at_reset,
-            allowance: self.allowance,
+            ..self
         })
     }
 
@@ -130,9 +116,9 @@ impl CounterState {
         ensures { result ≡ reset_of self tries }
     {
         CounterState {
-            total: self.total,
             at_reset: self.total,
             allowance: tries,
+            ..self
         }
     }
 }

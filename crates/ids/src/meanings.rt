@@ -4,43 +4,32 @@ ghost use Rattle.std.specs.Prelude.{◌≡◌};
 ghost use Rattle.ids.specs.Ids.{credentials, place_of, is_credential, is_value, meaning_of, is_monotonic};
 
 use crate::{
-    ANCHOR_TAG, COUNTER_TAG, LAMPORT, Meaning, POOL_CONFIG, Place, SIGNATURE_COUNTER,
-    STORE_LAST_REANCHOR, VALUE_TAG,
+    ANCHOR_TAG, COUNTER_TAG, LAMPORT, Meaning, POOL_CONFIG, SIGNATURE_COUNTER, STORE_LAST_REANCHOR,
+    VALUE_TAG,
 };
 
 // The credential numbers in their order, for look-up too.
 const CREDENTIALS: [u8; 7] = [0x01, 0x02, 0x03, 0x11, 0x12, 0x21, 0x22];
 
 // The place of a credential in that table.
-fn place_of(id: u8) -> Place
+fn place_of(id: u8) -> Option<usize>
     ensures { result ≡ place_of credentials id }
 {
-    for i in 0..CREDENTIALS.len() {
-        if CREDENTIALS[i] == id {
-            return Place::At(i);
-        }
-    }
-    Place::Unknown
+    CREDENTIALS.iter().position(|&credential| credential == id)
 }
 
 // Whether this is one of the seven credentials.
 pub fn is_credential(id: u8) -> bool
     ensures { result ≡ is_credential id }
 {
-    match place_of(id) {
-        Place::At(_) => true,
-        Place::Unknown => false,
-    }
+    place_of(id).is_some()
 }
 
 // Whether this is one of the value ids 1 to 8.
 pub fn is_value(id: u8) -> bool
     ensures { result ≡ is_value id }
 {
-    match id {
-        LAMPORT..=STORE_LAST_REANCHOR => true,
-        _ => false,
-    }
+    matches!(id, LAMPORT..=STORE_LAST_REANCHOR)
 }
 
 // What a tag and id mean, by cases.
@@ -49,8 +38,8 @@ pub fn meaning_of(tag: u8, id: u8) -> Meaning
 {
     match tag {
         COUNTER_TAG => match place_of(id) {
-            Place::At(i) => Meaning::Credential(i),
-            Place::Unknown => Meaning::Unknown,
+            Some(i) => Meaning::Credential(i),
+            None => Meaning::Unknown,
         },
         VALUE_TAG => match id {
             POOL_CONFIG | SIGNATURE_COUNTER | STORE_LAST_REANCHOR => Meaning::Free,
@@ -69,11 +58,5 @@ pub fn meaning_of(tag: u8, id: u8) -> Meaning
 pub fn is_monotonic(tag: u8, id: u8) -> bool
     ensures { result ≡ is_monotonic tag id }
 {
-    match meaning_of(tag, id) {
-        Meaning::Credential(_) => false,
-        Meaning::Monotonic => true,
-        Meaning::Free => false,
-        Meaning::Anchor => false,
-        Meaning::Unknown => false,
-    }
+    matches!(meaning_of(tag, id), Meaning::Monotonic)
 }

@@ -1,15 +1,16 @@
--- Laws of decimal text: it reads back as the number, how long it can be, and how it is written from the last digit to the first.
-use mathlib.Core.Path.{◌≡◌, refl, sym, ap, ap₂, subst, ◌∙◌}
-use mathlib.Core.List.{List, [], ◌∷◌}
-use Prim.Native.Nat.{ℕ, zero, suc, ◌+◌, ◌-◌, ◌/◌, ◌%◌, ◌^◌, ◌≤◌, ◌<◌}
+-- Laws of decimal text: it reads back as the number, how long it can be, and how all but its last digit is the text of its tenth part.
+use mathlib.Core.Path.{◌≡◌, refl, sym, ap, ◌∙◌}
+use mathlib.Core.List.{List, [], ◌∷◌, ◌++◌, append_assoc}
+use Prim.Native.Nat.{ℕ, zero, suc, ◌+◌, ◌/◌, ◌%◌, ◌^◌, ◌≤◌, ◌<◌}
 use native.Mathlib.Nat.{pow-suc}
 use native.Mathlib.Omega.{arith}
 use lib.Dec.{ltb}
-use lib.ListN.{length, take, drop, set, replicate, length-drop, length-set}
-use lib.Seq.{take_all, drop-cons, get_or-set_same, drop-set-lt}
-use borrow.Author.Tests.{lt-ltb, le-ltb}
+use lib.ListN.{length}
+use borrow.Author.Tests.{lt-ltb, le-ltb, ltb-true, ltb-false}
 use Rattle.basics.proofs.ChoiceLaws.{by_test}
-use Rattle.text.specs.Text.{digits, decimal, value_from, value_of}
+use Rattle.basics.specs.Choice.{pick}
+use Rattle.text.specs.Text.{digits, decimal, value_from, value_of, Puts}
+use Rattle.text.proofs.TextPutting.{Begun, put-none}
 
 -- ---- the two cases
 digits_last : (n x : ℕ) (more : List ℕ) → x < 10 → digits (suc n) x more ≡ (48 + x) ∷ more
@@ -50,55 +51,42 @@ unfolding decimal
 decimal-short zero x p h = absurd (omega arith)
 decimal-short (suc k) x p h = omega (arith, digits-short 20 k x [] h)
 
--- ---- writing, from the last digit to the first
--- the digits of x from place `first` on are written, and `rest` is what they leave of x
-pub record Spelling (x : ℕ) (places : List ℕ) (first rest : ℕ) : Type 0 where
-  pub some : 0 < first
-  pub most : first ≤ 20
-  pub long : length places ≡ 20
-  pub fits : rest < 10 ^ first
-  pub spells : digits first rest (drop first places) ≡ decimal x
+-- ---- writing, the tenth part before the last digit
+digits-append : (n x : ℕ) (more : List ℕ) → digits n x more ≡ digits n x [] ++ more
+unfolding digits
+digits-append zero x more = refl
+digits-append (suc n) x more =
+    let last : List ℕ = (48 + x % 10) ∷ [] in
+    by_test (λ (l : List ℕ). l ≡ digits (suc n) x [] ++ more) (ltb x 10) ((48 + x) ∷ more) (digits n (x / 10) ((48 + x % 10) ∷ more))
+    (λ e. sym (ap (λ (l : List ℕ). l ++ more) (digits_last n x [] (ltb-true x 10 e))))
+    (λ e.
+    digits-append n (x / 10) (last ++ more)
+    ∙ sym (append_assoc (digits n (x / 10) []) last more)
+    ∙ sym (ap (λ (l : List ℕ). l ++ more) (digits_more n x [] (ltb-false x 10 e) ∙ digits-append n (x / 10) last)))
 
-pub spelling : (x : ℕ) → x < 2 ^ 64 → Spelling x (replicate 20 0) 20 x
+-- one digit more than it takes changes nothing
+digits-spare : (n x : ℕ) (more : List ℕ) → x < 10 ^ suc n → digits (suc n) x more ≡ digits (suc (suc n)) x more
+unfolding digits
+digits-spare zero x more h = digits_last 0 x more (omega arith) ∙ sym (digits_last 1 x more (omega arith))
+digits-spare (suc n) x more h =
+    ap (λ (l : List ℕ). pick (ltb x 10) ((48 + x) ∷ more) l) (digits-spare n (x / 10) ((48 + x % 10) ∷ more) (omega (arith, pow-suc 10 (suc n))))
+
+pub decimal-more : (x : ℕ) → 10 ≤ x → x < 2 ^ 64 → decimal x ≡ decimal (x / 10) ++ ((48 + x % 10) ∷ [])
 unfolding decimal
-spelling x h = record { some = omega arith; most = omega arith; long = refl; fits = omega arith; spells = refl }
+decimal-more x h k =
+    let last : List ℕ = (48 + x % 10) ∷ [] in
+    digits_more 19 x [] h
+    ∙ digits-append 19 (x / 10) last
+    ∙ ap (λ (l : List ℕ). l ++ last) (digits-spare 18 (x / 10) [] (omega arith))
 
-drop-stored : (places : List ℕ) (n d : ℕ) → n < length places → drop n (set places n d) ≡ d ∷ drop (suc n) places
-drop-stored places n d h =
-    drop-cons (set places n d) n 0 (rw length-set h)
-    ∙ ap₂ (λ (a : ℕ) (l : List ℕ). a ∷ l) (get_or-set_same places n d 0 h) (drop-set-lt (suc n) places n d (omega arith))
+-- all but the last digit stands, where there are no more, and where the tenth part was put
+module _ (before : List ℕ) (at x : ℕ) where
+  pub begun_short : x < 10 → Begun before at (decimal x) ((48 + x % 10) ∷ []) before at
+  unfolding decimal
+  begun_short h =
+      let one : x % 10 ≡ x = omega arith in
+      record { done = []; stands = put-none before at; lacks = rw one (sym (digits_last 19 x [] h)) }
 
-module _ (x : ℕ) (places : List ℕ) (first rest : ℕ) (s : Spelling x places first rest) where
-  below : first ≡ suc (first - 1)
-  below = omega (arith, s.some)
-
-  stored : (d : ℕ) → drop (first - 1) (set places (first - 1) d) ≡ d ∷ drop first places
-  stored d = drop-stored places (first - 1) d (omega (arith, s.some, s.most, s.long)) ∙ ap (λ (n : ℕ). d ∷ drop n places) (sym below)
-
-  pub spell_more : 10 ≤ rest → Spelling x (set places (first - 1) (48 + rest % 10)) (first - 1) (rest / 10)
-  spell_more h =
-      let more = subst (λ (n : ℕ). rest < 10 ^ n) below s.fits in
-      record {
-        some = two (first - 1) more;
-        most = omega (arith, s.most);
-        long = length-set places (first - 1) (48 + rest % 10) ∙ s.long;
-        fits = omega (arith, pow-suc 10 (first - 1));
-        spells =
-            ap (digits (first - 1) (rest / 10)) (stored (48 + rest % 10))
-            ∙ sym (digits_more (first - 1) rest (drop first places) h)
-            ∙ ap (λ (n : ℕ). digits n rest (drop first places)) (sym below)
-            ∙ s.spells;
-      }
-    where
-      two : (n : ℕ) → rest < 10 ^ suc n → 0 < n
-      two zero e = absurd (omega arith)
-      two (suc n) e = omega arith
-
-  -- the last store makes the whole number
-  pub spell_end : rest < 10 → take (20 - (first - 1)) (drop (first - 1) (set places (first - 1) (48 + rest))) ≡ decimal x
-  spell_end h =
-      take_all (20 - (first - 1)) (drop (first - 1) (set places (first - 1) (48 + rest))) (simp (length-drop, length-set) (omega (arith, s.long)))
-      ∙ stored (48 + rest)
-      ∙ sym (digits_last (first - 1) rest (drop first places) h)
-      ∙ ap (λ (n : ℕ). digits n rest (drop first places)) (sym below)
-      ∙ s.spells
+  pub begun_long : {after : List ℕ} {r : ℕ} → 10 ≤ x → x < 2 ^ 64 → Puts before at (decimal (x / 10)) after r
+      → Begun before at (decimal x) ((48 + x % 10) ∷ []) after r
+  begun_long h k p = record { done = decimal (x / 10); stands = p; lacks = sym (decimal-more x h k) }

@@ -2,22 +2,17 @@
 ghost use Rattle.std.specs.Prelude.{◌≡◌, ◌+◌, ◌≤◌, ◌<◌, length};
 ghost use Rattle.text.specs.Text.{decimal, hex_digit, hex_of, Puts};
 
-// Puts a number in decimal. Its digits are found from the last to the first, in places of their own, and copied.
+// Puts a number in decimal: what its tenth part has for digits, and the last one behind them.
 pub fn put_decimal(out: &mut [u8], at: usize, x: u64) -> usize
     requires { at + length (decimal x) ≤ length out.old }
     ensures { Puts out.old at (decimal x) out.new result }
 {
-    let mut places = [0u8; 20];
-    let mut first: usize = 20;
-    let mut rest = x;
-    while 10 <= rest {
-        first -= 1;
-        places[first] = (48 + rest % 10) as u8;
-        rest /= 10;
-    }
-    first -= 1;
-    places[first] = (48 + rest) as u8;
-    crate::put_bytes(out, at, &places[first..20])
+    let next = if x < 10 {
+        at
+    } else {
+        put_decimal(out, at, x / 10)
+    };
+    crate::put_byte(out, next, b'0' + (x % 10) as u8)
 }
 
 // The lower-case hex digit of a number below 16.

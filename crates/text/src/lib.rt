@@ -22,12 +22,7 @@ pub fn put_bytes(out: &mut [u8], at: usize, bytes: &[u8]) -> usize
     requires { at + length bytes.now ≤ length out.old }
     ensures { Puts out.old at bytes.now out.new result }
 {
-    let mut to = at;
-    let mut i: usize = 0;
-    while i < bytes.len() {
-        out[to] = bytes[i];
-        to += 1;
-        i += 1;
-    }
-    to
+    let end = at + bytes.len();
+    out[at..end].copy_from_slice(bytes);
+    end
 }

@@ -6,7 +6,7 @@ use Rattle.bodies.proofs.anchors.anchor_record.Goals as goal
 
 pub returns-then-is_above : goal.returns-then-is_above
 unfolding anchor_record
-returns-then-is_above c = rw (lt-ltb _ _ c.if-is_above.true, c.none-z.ensures)
+returns-then-is_above c = rw (lt-ltb _ _ c.if-is_above.true)
 
 pub returns : goal.returns
 unfolding anchor_record le_bytes

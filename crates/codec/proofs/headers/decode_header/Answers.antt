@@ -9,7 +9,7 @@ use borrow.Author.Tests.{eq-eqb, ne_eqb, not-true, not-false}
 use Rattle.basics.specs.Little.{le_number}
 use Rattle.basics.proofs.ListsLaws.{read-part}
 use Rattle.crc.specs.Register.{crc32_of}
-use Rattle.codec.specs.declared.Header.TheVariants.{Valid}
+use Rattle.std.specs.Prelude.{Some}
 use Rattle.codec.specs.Slots.{crc_from, header_of, magic_at}
 use Rattle.codec.proofs.SlotsLaws.{from_start}
 use Rattle.codec.proofs.headers.decode_header.Goals as goal
@@ -62,4 +62,4 @@ returns c =
       eq-eqb _ _ c.if-is_other.false,
       eq-eqb _ _ (sym checked ∙ c.if-check12-carried.false ∙ c.carried.ensures),
     )
-    (ap Valid (c.number4.ensures ∙ ap le_number (read-part 4 4 slot (omega (arith, c.if-slot-ne-SLOT.false)))))
+    (ap Some (c.number4.ensures ∙ ap le_number (read-part 4 4 slot (omega (arith, c.if-slot-ne-SLOT.false)))))

@@ -8,17 +8,17 @@ use borrow.Author.Tests.{ne_eqb, le-leb, lt-leb}
 use Rattle.ids.specs.Ids.{credential_meaning, value_meaning, meaning_of}
 use Rattle.ids.proofs.meanings.meaning_of.Goals as goal
 
-pub returns-in-At : goal.returns-in-At
+pub returns-in-Some : goal.returns-in-Some
 unfolding meaning_of
-returns-in-At c =
+returns-in-Some c =
     rw c.in-82.is
-    (ap credential_meaning (sym c.in-At.is ∙ c.place_of.ensures))
+    (ap credential_meaning (sym c.in-Some.is ∙ c.place_of.ensures))
 
-pub returns-in-Unknown : goal.returns-in-Unknown
+pub returns-in-None : goal.returns-in-None
 unfolding meaning_of
-returns-in-Unknown c =
+returns-in-None c =
     rw c.in-82.is
-    (ap credential_meaning (sym c.in-Unknown.is ∙ c.place_of.ensures))
+    (ap credential_meaning (sym c.in-None.is ∙ c.place_of.ensures))
 
 pub returns-in-3 : goal.returns-in-3
 unfolding meaning_of value_meaning

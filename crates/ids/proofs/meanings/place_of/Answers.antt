@@ -1,21 +1,17 @@
 -- The place found is the first that holds the number.
-use mathlib.Core.Path.{sym, ◌∙◌}
-use native.Mathlib.Omega.{arith}
+use mathlib.Core.Path.{◌∙◌}
+use lib.Dec.{eqb}
+use Rattle.std.proofs.Common.{rules, tests}
+use Rattle.std.proofs.lemmas.Iterator.{YieldsList-from_slice}
+use Rattle.std.proofs.lemmas.Iterator.Search.{position_from_yields_List}
+use Rattle.std.proofs.lemmas.Iterator.Adapters.{position_from-zero}
 use Rattle.ids.specs.Ids.{credentials}
-use Rattle.ids.proofs.IdsLaws.{place_end, place-hit, place-miss}
+use Rattle.ids.proofs.IdsLaws.{place-position}
 use Rattle.ids.proofs.meanings.place_of.Goals as goal
-
-pub returns-then-i-id : goal.returns-then-i-id
-returns-then-i-id c =
-    let l = c in
-    sym (place-hit credentials l.loop-i.i l.args.id (omega arith) c.if-i-id.true) ∙ l.loop-i.invariant.1
-
-pub loop-i-preserved : goal.loop-i-preserved
-loop-i-preserved c =
-    let l = c in
-    (omega arith, sym (place-miss credentials l.loop-i.i l.args.id (omega arith) c.if-i-id.false) ∙ l.loop-i.invariant.1)
 
 pub returns : goal.returns
 returns c =
-    let l = c in
-    sym (place_end credentials l.loop-i.i l.args.id (omega arith)) ∙ l.loop-i.invariant.1
+    position_from_yields_List (λ credential. eqb credential c.args.id) _ _ c.position.result c.position.ensures.ran
+    (YieldsList-from_slice _ c.iter.ensures.rest)
+    (λ x b q k. search (rules, tests))
+    ∙ position_from-zero (λ x. eqb x c.args.id) credentials ∙ place-position credentials 0 c.args.id
