@@ -1,4 +1,6 @@
 -- No listing is longer than `longest`: an image of bytes opens to small numbers and at most 32 records of bytes.
+use Rattle.std.specs.Prelude.{Option, Some, None, Err}
+use Rattle.basics.specs.Answers.{all_done, is_done}
 use mathlib.Core.Path.{◌≡◌, refl, sym, ap}
 use mathlib.Core.Bool.{Bool, true, false, ◌||◌, false≢true}
 use mathlib.Core.List.{List, [], ◌∷◌, ◌++◌}
@@ -10,17 +12,13 @@ use lib.Pow.{are_bytes}
 use borrow.Author.Tests.{eqb-true, ltb-true}
 use Rattle.basics.specs.Choice.{pick}
 use Rattle.basics.specs.Lists.{all_are, part}
-use Rattle.basics.specs.Answers.{is_done}
-use Rattle.basics.specs.declared.Answer.TheVariants.{Done, BadImage}
+use Rattle.basics.specs.declared.Refusal.TheVariants.{BadImage}
 use Rattle.basics.proofs.ChoiceLaws.{by_test, first}
 use Rattle.basics.proofs.ListsLaws.{bytes-head, bytes_tail, bytes_cons, bytes_take, bytes_drop}
 use Rattle.basics.proofs.LittleLaws.{le_fits}
 use Rattle.basics.specs.Little.{le_number}
 use Rattle.codec.specs.declared.Raw.{Raw}
-use Rattle.codec.specs.declared.OptRaw.{OptRaw}
-use Rattle.codec.specs.declared.Header.{Header}
-use Rattle.codec.specs.declared.Header.TheVariants.{Valid, Invalid}
-use Rattle.codec.specs.Slots.{some, none, no_raw, raw_of, is_header, header_of, crc_under, is_record_with, decoded_with, decoded}
+use Rattle.codec.specs.Slots.{raw_of, is_header, header_of, crc_under, is_record_with, decoded_with, decoded}
 use Rattle.flash.specs.Image.{addr, sectors_in, slot_at}
 use Rattle.flash.proofs.ImageSectors.{sectors-fit}
 use Rattle.records.specs.declared.Log.{Log}
@@ -28,11 +26,9 @@ use Rattle.records.specs.declared.State.TheVariants.{Failed}
 use Rattle.records.specs.Logs.{places, log_of}
 use Rattle.records.specs.Table.{limit, holds, has_room, same_key, falls, absorbed}
 use Rattle.records.proofs.LogsPlaces.{places-take}
-use Rattle.scan.specs.declared.Chosen.{Chosen}
-use Rattle.scan.specs.declared.Chosen.TheVariants.{Sector, Nothing}
 use Rattle.scan.specs.declared.Opened.{Opened}
 use Rattle.scan.specs.Choosing.{header_at, chosen_of}
-use Rattle.scan.specs.Reading.{Read, too_many, these, with_slot, read_from, head_from, records_in, head_in}
+use Rattle.scan.specs.Reading.{with_record, Read, too_many, these, with_slot, read_from, head_from, records_in, head_in}
 use Rattle.scan.specs.Opening.{region_read, region_chosen, scan_of, log_from, open_of}
 use Rattle.scan.proofs.ChoosingWinner.{Right, chosen_right, valid_same, valid_invalid}
 use Rattle.text.proofs.TextDecimal.{decimal-short}
@@ -75,14 +71,19 @@ bytes_get (x ∷ xs) (suc i) t = bytes_get xs i (bytes_tail x xs t)
 bytes-short : (tag id : ℕ) (body : List ℕ) → tag < 256 → id < 256 → T (are_bytes body) → length body ≤ 10 → length (line tag (id ∷ body)) ≤ 48
 bytes-short tag id body h g t l = omega (arith, line-short tag (id ∷ body) h (bytes_cons id body g t))
 
-decoded-short : (seq : ℕ) (slot : List ℕ) → T (are_bytes slot) → Short (decoded seq slot).raw
-unfolding decoded decoded_with Short
+-- a record, if there is one
+ShortIn : Option Raw → Type 0
+ShortIn None = Unit {0}
+ShortIn (Some r) = Short r
+
+decoded-short : (seq : ℕ) (slot : List ℕ) → T (are_bytes slot) → ShortIn (decoded seq slot)
+unfolding decoded decoded_with ShortIn Short
 decoded-short seq slot t =
-    by_test (λ (o : OptRaw). length (record_line o.raw) ≤ 48) (is_record_with (crc_under seq (take 12 slot)) slot) (some (raw_of slot)) none
+    by_test ShortIn (is_record_with (crc_under seq (take 12 slot)) slot) (Some (raw_of slot)) None
     (λ e.
     bytes-short (get_or slot 0 0) (get_or slot 1 0) (part 2 10 slot) (bytes_get slot 0 t) (bytes_get slot 1 t)
     (bytes_take 10 (drop 2 slot) (bytes_drop 2 slot t)) (simp length-take (omega arith)))
-    (λ e. bytes-short 0 0 no_raw.body (omega arith) (omega arith) tt (omega arith))
+    (λ e. tt)
 
 absorbed-short : (r : Raw) (t : List Raw) → Short r → AllShort t → AllShort (absorbed r t)
 unfolding AllShort absorbed
@@ -123,16 +124,17 @@ Good : Read → Type 0
 Good too_many = Unit {0}
 Good (these t) = (length t ≤ limit) × AllShort t
 
+record_good : (o : Option Raw) (held : List Raw) → ShortIn o → Good (these held) → Good (with_record o held)
+unfolding Good ShortIn
+record_good None held s g = g
+record_good (Some r) held s g =
+    by_test Good (has_room limit r held) (these (absorbed r held)) too_many
+    (λ f. (absorbed-fits r held f g.0, absorbed-short r held s g.1)) (λ f. tt)
+
 slot_good : (seq : ℕ) (slot : List ℕ) (read : Read) → T (are_bytes slot) → Good read → Good (with_slot seq slot read)
 unfolding Good
 slot_good seq slot too_many t g = tt
-slot_good seq slot (these held) t g =
-    let r = (decoded seq slot).raw in
-    by_test Good (decoded seq slot).some (pick (has_room limit r held) (these (absorbed r held)) too_many) (these held)
-    (λ e.
-    by_test Good (has_room limit r held) (these (absorbed r held)) too_many
-    (λ f. (absorbed-fits r held f g.0, absorbed-short r held (decoded-short seq slot t) g.1)) (λ f. tt))
-    (λ e. g)
+slot_good seq slot (these held) t g = record_good (decoded seq slot) held (decoded-short seq slot t) g
 
 read_good : (n k seq : ℕ) (slots : ℕ → List ℕ) (read : Read) → ((k : ℕ) → T (are_bytes (slots k))) → Good read → Good (read_from n k seq slots read)
 unfolding read_from
@@ -151,16 +153,16 @@ unfolding slot_at
 slot-bytes image s k t = bytes_take 16 (drop (addr s k) image) (bytes_drop (addr s k) image t)
 
 -- ---- the winner's seq
-seq-fits : (version seq : ℕ) (slot : List ℕ) → T (are_bytes slot) → header_of version slot ≡ Valid seq → seq < 2 ^ 32
+seq-fits : (version seq : ℕ) (slot : List ℕ) → T (are_bytes slot) → header_of version slot ≡ Some seq → seq < 2 ^ 32
 unfolding header_of
 seq-fits version seq slot t =
-    by_test (λ (h : Header). h ≡ Valid seq → seq < 2 ^ 32) (is_header version slot) (Valid (le_number (part 4 4 slot))) Invalid
+    by_test (λ (h : Option ℕ). h ≡ Some seq → seq < 2 ^ 32) (is_header version slot) (Some (le_number (part 4 4 slot))) None
     (λ e v.
     let long = eqb-true (length slot) 16 (first (eqb (length slot) 16) _ e) in
     let four : length (part 4 4 slot) ≡ 4 = simp (length-take, length-drop) (omega arith) in
     let fits = rw four at (le_fits (part 4 4 slot) (bytes_take 4 (drop 4 slot) (bytes_drop 4 slot t))) in
-    omega (arith, valid_same (Valid seq) seq (le_number (part 4 4 slot)) refl (sym v), fits))
-    (λ e v. absurd (valid_invalid Invalid seq refl v))
+    omega (arith, valid_same (Some seq) seq (le_number (part 4 4 slot)) refl (sym v), fits))
+    (λ e v. absurd (valid_invalid None seq refl v))
 
 -- ---- the log
 pub record Fits (l : Log) : Type 0 where
@@ -195,11 +197,11 @@ read_fits s seq head (these t) hs hq hh g = record {
   );
 }
 
-chosen-fits : (image : List ℕ) → T (are_bytes image) → (n : ℕ) → n ≤ 16 → (b : Chosen) → Right (header_at 2 image) n b
+chosen-fits : (image : List ℕ) → T (are_bytes image) → (n : ℕ) → n ≤ 16 → (b : Option (ℕ × ℕ)) → Right (header_at 2 image) n b
     → Fits (log_from (region_chosen image b))
 unfolding Good AllShort
-chosen-fits image t n most Nothing g = record { few = omega arith; short = omega arith }
-chosen-fits image t n most (Sector s seq) g =
+chosen-fits image t n most None g = record { few = omega arith; short = omega arith }
+chosen-fits image t n most (Some (s, seq)) g =
     read_fits s seq (head_in (slot_at image s)) (records_in seq (slot_at image s))
     (omega (arith, g.within))
     (seq-fits 2 seq (slot_at image s 0) (slot-bytes image s 0 t) g.own)
@@ -210,8 +212,8 @@ chosen-fits image t n most (Sector s seq) g =
 pub opened-fits : (image : List ℕ) → T (are_bytes image) → Fits (open_of image).log
 unfolding open_of scan_of
 opened-fits image t =
-    by_test (λ (o : Opened). Fits o.log) (eqb (sectors_in (length image)) 0) (record { answer = BadImage; log = log_of Failed 1 [] })
-    (record { answer = Done; log = log_from (region_chosen image (chosen_of 2 (sectors_in (length image)) image)) })
+    by_test (λ (o : Opened). Fits o.log) (eqb (sectors_in (length image)) 0) (record { answer = Err BadImage; log = log_of Failed 1 [] })
+    (record { answer = all_done; log = log_from (region_chosen image (chosen_of 2 (sectors_in (length image)) image)) })
     (λ e. record { few = omega arith; short = omega arith })
     (λ e.
     chosen-fits image t (sectors_in (length image)) (sectors-fit (length image)).0 (chosen_of 2 (sectors_in (length image)) image)

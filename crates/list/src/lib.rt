@@ -46,15 +46,12 @@ fn put_record(out: &mut [u8], at: usize, r: Raw) -> usize
     requires { at + length (record_line r) ≤ length out.old }
     ensures { Puts out.old at (record_line r) out.new result }
 {
-    let body = r.body;
     let a = put_small(out, at, r.tag, b' ');
     let mut to = put_small(out, a, r.id, b' ');
-    let mut i: usize = 0;
-    while i < 9 {
-        to = put_small(out, to, body[i], b' ');
-        i += 1;
+    for b in &r.body[..9] {
+        to = put_small(out, to, *b, b' ');
     }
-    put_small(out, to, body[9], b'\n')
+    put_small(out, to, r.body[9], b'\n')
 }
 
 // Puts the lines of the records in the first `count` places.
@@ -63,16 +60,14 @@ fn put_records(out: &mut [u8], at: usize, table: [Raw; LIMIT], count: usize) -> 
     ensures { Puts out.old at (record_lines (take count table)) out.new result }
 {
     let mut to = at;
-    let mut i: usize = 0;
-    while i < count {
-        to = put_record(out, to, table[i]);
-        i += 1;
+    for r in &table[..count] {
+        to = put_record(out, to, *r);
     }
     to
 }
 
 // Lists an image from the start of the buffer on, and answers the listing's length.
-// A buffer shorter than LONGEST stays as it is, and the answer is 0.
+// A buffer shorter than LONGEST stays as it is, and the answer is 0: no Option, since the contract gives a length.
 pub fn list(image: &[u8], out: &mut [u8]) -> usize
     ensures { Puts out.old 0 (listing_in (length out.old) image.now) out.new result }
 {
@@ -80,8 +75,7 @@ pub fn list(image: &[u8], out: &mut [u8]) -> usize
         return 0;
     }
     let o = scan::open(image);
-    let answer = o.answer;
-    if !basics::is_done(answer) {
+    if o.answer.is_err() {
         return text::put_bytes(out, 0, b"bad-image\n");
     }
     let log = o.log;

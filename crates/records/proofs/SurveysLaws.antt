@@ -6,19 +6,20 @@ use Prim.Native.Nat.{ℕ, zero, suc, ◌+◌, ◌≤◌, ◌<◌}
 use native.Mathlib.Numerals.{add-one}
 use native.Mathlib.Omega.{arith}
 use lib.Dec.{eqb, ltb}
-use lib.ListN.{length, get_or, set, take, drop, replicate, length-set, get_or-eq_default}
+use lib.ListN.{length, get_or, set, take, drop, replicate, length-set}
 use lib.Seq.{take-suc, take_all, length-take-le, split_at, get_or-set_same, get_or-set_other}
 use borrow.Author.Tests.{eq-eqb, ne_eqb, eqb-true, lt-ltb, le-ltb, ltb-false}
 use Rattle.basics.specs.Choice.{pick}
 use Rattle.basics.proofs.ChoiceLaws.{alike, first, second}
 use Rattle.codec.specs.declared.Raw.{Raw}
 use Rattle.codec.specs.Slots.{no_raw}
-use Rattle.records.specs.Table.{limit, has_key, same_key, place_of, key_place, holds}
+use Rattle.records.specs.Table.{limit, has_key, same_key, place_of, key_place, holds, held_of}
+use Rattle.std.specs.Prelude.{Option, Some, None}
 use Rattle.records.proofs.TableFinding.{key-place, place-most, place-holds}
 use Rattle.records.proofs.TableJoining.{nowhere}
 use Rattle.records.proofs.LogsPlaces.{beside-stored}
 use Rattle.records.specs.Fitting.{keys_fit}
-use Rattle.records.specs.Surveys.{misfitted, found_in, survey_of}
+use Rattle.records.specs.Surveys.{found_in, survey_of}
 
 -- ---- keys, wherever a record stands among them
 and-swap : (a b c : Bool) → (a && (b && c)) ≡ (b && (a && c))
@@ -86,7 +87,7 @@ get_d_any (x ∷ t) zero d e h = refl
 get_d_any (x ∷ t) (suc i) d e h = get_d_any t i d e (omega arith)
 
 -- ---- what the loop holds, i records passed
-pub record Surveying (tag id : ℕ) (t : List Raw) (met tags ids : List ℕ) (at : ℕ) (held : Raw) (i : ℕ) : Type 0 where
+pub record Surveying (tag id : ℕ) (t : List Raw) (met tags ids : List ℕ) (at : ℕ) (held : Option Raw) (i : ℕ) : Type 0 where
   pub few : length t ≤ limit
   pub most : i ≤ length t
   pub fit : keys_fit (take i t) ≡ true
@@ -97,10 +98,10 @@ pub record Surveying (tag id : ℕ) (t : List Raw) (met tags ids : List ℕ) (at
   pub tags_are : take i tags ≡ map (λ (r : Raw). r.tag) (take i t)
   pub ids_are : take i ids ≡ map (λ (r : Raw). r.id) (take i t)
   pub at-is : at ≡ pick (holds tag id (take i t)) (place_of tag id t) (length t)
-  pub held-is : held ≡ pick (holds tag id (take i t)) (get_or t (place_of tag id t) no_raw) no_raw
+  pub held-is : held ≡ pick (holds tag id (take i t)) (Some (get_or t (place_of tag id t) no_raw)) None
 
 -- no record passed
-pub start : (tag id : ℕ) (t : List Raw) (at : ℕ) (held : Raw) → length t ≤ limit → at ≡ length t → held ≡ no_raw
+pub start : (tag id : ℕ) (t : List Raw) (at : ℕ) (held : Option Raw) → length t ≤ limit → at ≡ length t → held ≡ None
     → Surveying tag id t (replicate 256 0) (replicate limit 0) (replicate limit 0) at held 0
 unfolding keys_fit holds
 start tag id t at held few a h = record {
@@ -117,7 +118,7 @@ start tag id t at held few a h = record {
   held-is = h;
 }
 
-module _ {tag id : ℕ} {t : List Raw} {met tags ids : List ℕ} {at : ℕ} {held : Raw} {i : ℕ} (s : Surveying tag id t met tags ids at held i) where
+module _ {tag id : ℕ} {t : List Raw} {met tags ids : List ℕ} {at : ℕ} {held : Option Raw} {i : ℕ} (s : Surveying tag id t met tags ids at held i) where
   -- the key's place, as `find` has it
   pub place_passed : (x y : ℕ) → key_place x y (take i tags) (take i ids) ≡ place_of x y (take i t)
   place_passed x y = ap₂ (key_place x y) s.tags_are s.ids_are ∙ key-place x y (take i t)
@@ -134,27 +135,21 @@ module _ {tag id : ℕ} {t : List Raw} {met tags ids : List ℕ} {at : ℕ} {hel
       sym (place-holds x y (take i t)) ∙ le-ltb (place_of x y (take i t)) (length (take i t)) (omega (arith, place_passed x y, passed_long))
 
   -- all records passed
-  pub finish : length t ≤ i → record { fits = true; at = at; held = held } ≡ survey_of tag id t
+  pub finish : length t ≤ i → Some (record { at = at; held = held }) ≡ survey_of tag id t
+  unfolding held_of
   finish done =
       let all = take_all i t done in
       let place =
       s.at-is
       ∙ ap (λ (l : List Raw). pick (holds tag id l) (place_of tag id t) (length t)) all
       ∙ at_end (holds tag id t) (place-holds tag id t) in
-      let there =
-      s.held-is
-      ∙ ap (λ (l : List Raw). pick (holds tag id l) (get_or t (place_of tag id t) no_raw) no_raw) all
-      ∙ held_end (holds tag id t) (place-holds tag id t) in
-      (λ k. record { fits = true; at = place k; held = there k })
-      ∙ ap (λ (b : Bool). pick b (found_in tag id t) misfitted) (sym s.fit ∙ ap keys_fit all)
+      let there = s.held-is ∙ ap (λ (l : List Raw). pick (holds tag id l) (Some (get_or t (place_of tag id t) no_raw)) None) all in
+      (λ k. Some (record { at = place k; held = there k }))
+      ∙ ap (λ (b : Bool). pick b (Some (found_in tag id t)) None) (sym s.fit ∙ ap keys_fit all)
     where
       at_end : (b : Bool) → ltb (place_of tag id t) (length t) ≡ b → pick b (place_of tag id t) (length t) ≡ place_of tag id t
       at_end true e = refl
       at_end false e = omega (arith, ltb-false (place_of tag id t) (length t) e, place-most tag id t)
-
-      held_end : (b : Bool) → ltb (place_of tag id t) (length t) ≡ b → pick b (get_or t (place_of tag id t) no_raw) no_raw ≡ get_or t (place_of tag id t) no_raw
-      held_end true e = refl
-      held_end false e = sym (get_or-eq_default t no_raw (ltb-false (place_of tag id t) (length t) e))
 
   module _ {r : Raw} (more : i < length t) (here : get_or t i nowhere ≡ r) where
     whole : t ≡ take i t ++ r ∷ drop (suc i) t
@@ -166,15 +161,15 @@ module _ {tag id : ℕ} {t : List Raw} {met tags ids : List ℕ} {at : ℕ} {hel
     among : keys_fit t ≡ keys_fit (r ∷ (take i t ++ drop (suc i) t))
     among = ap keys_fit whole ∙ keys_move (take i t) r (drop (suc i) t)
 
-    refuses : keys_fit t ≡ false → misfitted ≡ survey_of tag id t
-    refuses e = ap (λ (b : Bool). pick b (found_in tag id t) misfitted) (sym e)
+    refuses : keys_fit t ≡ false → None ≡ survey_of tag id t
+    refuses e = ap (λ (b : Bool). pick b (Some (found_in tag id t)) None) (sym e)
 
     -- the log doesn't fit where the tag is FF or the key was met before
-    pub blank : r.tag ≡ 0xFF → misfitted ≡ survey_of tag id t
+    pub blank : r.tag ≡ 0xFF → None ≡ survey_of tag id t
     unfolding keys_fit
     blank e = refuses (among ∙ rw e)
 
-    pub twice : holds r.tag r.id (take i t) ≡ true → misfitted ≡ survey_of tag id t
+    pub twice : holds r.tag r.id (take i t) ≡ true → None ≡ survey_of tag id t
     unfolding keys_fit
     twice e = refuses (among ∙ rw (holds-append r.tag r.id (take i t) (drop (suc i) t), e, and-false))
 
@@ -210,8 +205,8 @@ module _ {tag id : ℕ} {t : List Raw} {met tags ids : List ℕ} {at : ℕ} {hel
           marked : ◌≡◌ {A = ℕ} 1 0 → ⊥
           marked e = omega arith
 
-      go_on : (at' : ℕ) (held' : Raw) → at' ≡ pick (holds tag id (take (i + 1) t)) (place_of tag id t) (length t)
-          → held' ≡ pick (holds tag id (take (i + 1) t)) (get_or t (place_of tag id t) no_raw) no_raw
+      go_on : (at' : ℕ) (held' : Option Raw) → at' ≡ pick (holds tag id (take (i + 1) t)) (place_of tag id t) (length t)
+          → held' ≡ pick (holds tag id (take (i + 1) t)) (Some (get_or t (place_of tag id t) no_raw)) None
           → Surveying tag id t (set met r.id 1) (set tags i r.tag) (set ids i r.id) at' held' (i + 1)
       go_on at' held' a h = record {
         few = s.few;
@@ -228,7 +223,7 @@ module _ {tag id : ℕ} {t : List Raw} {met tags ids : List ℕ} {at : ℕ} {hel
       }
 
       -- the record with the key
-      pub hit : has_key tag id r ≡ true → Surveying tag id t (set met r.id 1) (set tags i r.tag) (set ids i r.id) i r (i + 1)
+      pub hit : has_key tag id r ≡ true → Surveying tag id t (set met r.id 1) (set tags i r.tag) (set ids i r.id) i (Some r) (i + 1)
       unfolding place_of
       hit key =
           let new = now-holds tag id ∙ ap (λ (b : Bool). b || holds tag id (take i t)) key in
@@ -238,13 +233,12 @@ module _ {tag id : ℕ} {t : List Raw} {met tags ids : List ℕ} {at : ℕ} {hel
           ∙ place-append tag id (take i t) (r ∷ drop (suc i) t) (ap₂ (λ (x y : ℕ). holds x y (take i t)) (sym its.0) (sym its.1) ∙ fresh)
           ∙ ap (λ (b : Bool). length (take i t) + pick b 0 (suc (place_of tag id (drop (suc i) t)))) key
           ∙ omega (arith, passed_long) in
-          go_on i r
+          go_on i (Some r)
           (sym (ap (λ (b : Bool). pick b (place_of tag id t) (length t)) new ∙ place))
           (sym
-          (ap (λ (b : Bool). pick b (get_or t (place_of tag id t) no_raw) no_raw) new
-          ∙ ap (λ (n : ℕ). get_or t n no_raw) place
-          ∙ get_d_any t i no_raw nowhere more
-          ∙ here))
+          (ap (λ (b : Bool). pick b (Some (get_or t (place_of tag id t) no_raw)) None) new
+          ∙ ap (λ (n : ℕ). Some (get_or t n no_raw)) place
+          ∙ ap Some (get_d_any t i no_raw nowhere more ∙ here)))
 
       -- any other
       pub miss : has_key tag id r ≡ false → Surveying tag id t (set met r.id 1) (set tags i r.tag) (set ids i r.id) at held (i + 1)
@@ -252,4 +246,4 @@ module _ {tag id : ℕ} {t : List Raw} {met tags ids : List ℕ} {at : ℕ} {hel
           let old = sym (now-holds tag id ∙ ap (λ (b : Bool). b || holds tag id (take i t)) key) in
           go_on at held
           (s.at-is ∙ ap (λ (b : Bool). pick b (place_of tag id t) (length t)) old)
-          (s.held-is ∙ ap (λ (b : Bool). pick b (get_or t (place_of tag id t) no_raw) no_raw) old)
+          (s.held-is ∙ ap (λ (b : Bool). pick b (Some (get_or t (place_of tag id t) no_raw)) None) old)

@@ -1,14 +1,13 @@
 -- "2 BadLog": what a log value must be for an image of n sectors. Calls without an image take n = 16.
-use Rattle.std.specs.Prelude.{Bool, true, false, not, ◌&&◌, ◌||◌, List, [], ◌∷◌, ℕ, eqb, leb, ltb, get_or, drop}
+use Rattle.std.specs.Prelude.{Bool, true, not, ◌&&◌, ◌||◌, List, [], ◌∷◌, ℕ, eqb, leb, ltb, drop, Option, Some, None}
 use Rattle.basics.specs.Choice.{pick}
 use Rattle.basics.specs.Lists.{all_are}
 use Rattle.codec.specs.declared.Raw.{Raw}
-use Rattle.codec.specs.Slots.{no_raw}
 use Rattle.flash.specs.Image.{slot_count}
 use Rattle.records.specs.declared.State.{State}
 use Rattle.records.specs.declared.State.TheVariants.{Unformatted, Failed, Active}
 use Rattle.records.specs.declared.Log.{Log}
-use Rattle.records.specs.Table.{limit, place_of, holds}
+use Rattle.records.specs.Table.{limit, place_of, holds, held_of}
 use Rattle.records.specs.Logs.{records_of}
 use Rattle.records.specs.declared.fitting.Looked.{Looked}
 
@@ -47,9 +46,7 @@ log_fits n log =
     && (state_fits n log.state log.next_seq log.count
     && (all_zeros (drop log.count log.table) && keys_fit (records_of log))))
 
--- a log that fits, the place of a key in it (the count where there is none) and the record there
-unfoldable pub looked_of : ℕ → ℕ → ℕ → Log → Looked
+-- in a log that fits, the place of a key (the count where there is none) and the record held of it
+unfoldable pub looked_of : ℕ → ℕ → ℕ → Log → Option Looked
 looked_of n tag id log =
-    pick (log_fits n log)
-    (record { fits = true; at = place_of tag id (records_of log); held = get_or (records_of log) (place_of tag id (records_of log)) no_raw })
-    (record { fits = false; at = 0; held = no_raw })
+    pick (log_fits n log) (Some (record { at = place_of tag id (records_of log); held = held_of tag id (records_of log) })) None

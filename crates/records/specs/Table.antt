@@ -1,8 +1,9 @@
 -- The table of records: one a key, in the order in which the keys came.
-use Rattle.std.specs.Prelude.{Bool, false, ◌&&◌, ◌||◌, List, [], ◌∷◌, ℕ, suc, ◌+◌, eqb, ltb, length}
+use Rattle.std.specs.Prelude.{Bool, false, ◌&&◌, ◌||◌, List, [], ◌∷◌, ℕ, suc, ◌+◌, eqb, ltb, length, get_or, Option, Some, None}
 use Rattle.basics.specs.Choice.{pick}
 use Rattle.ids.specs.Ids.{is_monotonic}
 use Rattle.codec.specs.declared.Raw.{Raw}
+use Rattle.codec.specs.Slots.{no_raw}
 use Rattle.bodies.specs.Bodies.{value_in}
 
 -- "at most 32 records"
@@ -31,6 +32,10 @@ key_place tag id (x ∷ tags) (y ∷ ids) = pick (eqb x tag && eqb y id) 0 (suc 
 unfoldable pub holds : ℕ → ℕ → List Raw → Bool
 holds tag id [] = false
 holds tag id (e ∷ es) = has_key tag id e || holds tag id es
+
+-- the record held of a key, if there is one
+unfoldable pub held_of : ℕ → ℕ → List Raw → Option Raw
+held_of tag id t = pick (holds tag id t) (Some (get_or t (place_of tag id t) no_raw)) None
 
 -- "replaces the held one of the same tag and id in its place, or joins at the end"
 unfoldable pub joined : Raw → List Raw → List Raw

@@ -1,7 +1,6 @@
 // The tests of number 2, BadLog, one by one: of the state, and of the places past the count. All of them together stand in lookup.
 ghost use Rattle.std.specs.Prelude.{◌≡◌, eqb, drop};
 ghost use Rattle.records.specs.Fitting.{state_fits, is_zeros, all_zeros};
-ghost use Rattle.records.specs.Surveys.{misfitted};
 
 use crate::{LIMIT, State};
 use codec::Raw;
@@ -13,24 +12,11 @@ pub const SEQ_MAX: u32 = 4_294_967_295;
 // The head of a full sector: one past its last slot.
 pub const HEAD_MAX: u32 = SLOTS as u32;
 
-// What a look finds: where the log fits, the place of the key, or the count, and the record there.
-#[derive(Clone, Copy)]
+// What a look finds in a log that fits: the place of the key, or the count, and the record held of it.
+#[derive(Clone, Copy, Debug, PartialEq, Eq)]
 pub struct Looked {
-    pub fits: bool,
     pub at: usize,
-    pub held: Raw,
-}
-
-// What is found in a log that doesn't fit.
-pub fn misfit() -> Looked
-    ensures { result ≡ misfitted }
-{
-    let z = Raw::none();
-    Looked {
-        fits: false,
-        at: 0,
-        held: z,
-    }
+    pub held: Option<Raw>,
 }
 
 // Whether the state fits an image of so many sectors, this next_seq and this count.
@@ -39,22 +25,11 @@ pub fn state_fits(state: State, next_seq: u32, count: usize, sectors: usize) -> 
 {
     match state {
         State::Active { sector, seq, head } => {
-            if sectors <= sector as usize {
-                return false;
-            }
-            if head < 1 {
-                return false;
-            }
-            if HEAD_MAX < head {
-                return false;
-            }
-            if seq < next_seq {
-                return true;
-            }
-            next_seq == SEQ_MAX
+            (sector as usize) < sectors
+                && (1..=HEAD_MAX).contains(&head)
+                && (seq < next_seq || next_seq == SEQ_MAX)
         }
-        State::Unformatted => count == 0,
-        State::Failed => count == 0,
+        State::Unformatted | State::Failed => count == 0,
     }
 }
 
@@ -73,10 +48,8 @@ pub fn zeros_past(table: [Raw; LIMIT], count: usize) -> bool
     ensures { result ≡ all_zeros (drop count table) }
 {
     let mut any: u32 = 0;
-    let mut i = count;
-    while i < LIMIT {
-        any = any | bits_of(table[i]);
-        i += 1;
+    for i in count..LIMIT {
+        any |= bits_of(table[i]);
     }
     any == 0
 }

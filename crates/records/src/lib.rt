@@ -50,8 +50,8 @@ pub fn empty(state: State, next_seq: u32) -> Log
 {
     let t = empty_table();
     Log {
-        state: state,
-        next_seq: next_seq,
+        state,
+        next_seq,
         count: 0,
         table: t,
     }
@@ -62,16 +62,14 @@ pub fn find(tags: &[u8], ids: &[u8], count: usize, tag: u8, id: u8) -> usize
     requires { (count ≤ length tags.now) × (count ≤ length ids.now) }
     ensures { result ≡ key_place tag id (take count tags.now) (take count ids.now) }
 {
-    let mut i: usize = 0;
-    while i < count {
+    for i in 0..count {
         if tags[i] == tag {
             if ids[i] == id {
                 return i;
             }
         }
-        i += 1;
     }
-    i
+    count
 }
 
 // Whether a record read takes the place of the one held: a monotonic value only if it isn't smaller.

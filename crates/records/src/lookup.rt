@@ -5,8 +5,8 @@ ghost use Rattle.records.specs.Fitting.{looked_of};
 use crate::fitting::Looked;
 use crate::{LIMIT, Log, fitting, survey};
 
-// Whether a log fits an image of so many sectors, and in one that does, the place of a key, or the count, and the record there.
-pub fn look(log: Log, sectors: usize, tag: u8, id: u8) -> Looked
+// In a log that fits an image of so many sectors, the place of a key, or the count, and the record held of it; none in any other.
+pub fn look(log: Log, sectors: usize, tag: u8, id: u8) -> Option<Looked>
     ensures { result ≡ looked_of sectors tag id log }
 {
     let state = log.state;
@@ -14,17 +14,17 @@ pub fn look(log: Log, sectors: usize, tag: u8, id: u8) -> Looked
     let count = log.count;
     let has_no_seq = log.next_seq == 0;
     if has_no_seq {
-        return fitting::misfit();
+        return None;
     }
     let is_over = LIMIT < count;
     if is_over {
-        return fitting::misfit();
+        return None;
     }
     if !fitting::state_fits(state, log.next_seq, count, sectors) {
-        return fitting::misfit();
+        return None;
     }
     if !fitting::zeros_past(table, count) {
-        return fitting::misfit();
+        return None;
     }
     survey::survey(table, count, tag, id)
 }

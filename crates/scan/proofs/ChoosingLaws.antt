@@ -1,20 +1,17 @@
 -- Which header wins: the fold over the sectors, and what it says of the winner.
+use Rattle.std.specs.Prelude.{Option, Some, None}
 use mathlib.Core.Path.{◌≡◌, refl, sym, ap, ◌∙◌}
 use Prim.Native.Nat.{ℕ, suc, ◌+◌, ◌-◌, ◌≤◌, ◌<◌}
 use native.Mathlib.Omega.{arith}
-use Rattle.codec.specs.declared.Header.{Header}
-use Rattle.codec.specs.declared.Header.TheVariants.{Invalid}
-use Rattle.scan.specs.declared.Chosen.{Chosen}
-use Rattle.scan.specs.declared.Chosen.TheVariants.{Sector, Nothing}
 use Rattle.scan.specs.Choosing.{better, best_from}
 
 -- a sector without a header changes nothing
-pub better-none : (b : Chosen) (s : ℕ) → better b s Invalid ≡ b
-better-none Nothing s = refl
-better-none (Sector w most) s = refl
+pub better-none : (b : Option (ℕ × ℕ)) (s : ℕ) → better b s None ≡ b
+better-none None s = refl
+better-none (Some (w, most)) s = refl
 
 -- a loop over the sectors, s of n passed
-module _ (headers : ℕ → Header) (b : Chosen) (n s : ℕ) where
+module _ (headers : ℕ → Option ℕ) (b : Option (ℕ × ℕ)) (n s : ℕ) where
   pub best_end : n ≤ s → best_from (n - s) s headers b ≡ b
   unfolding best_from
   best_end h = let e : n - s ≡ 0 = omega arith in rw e

@@ -1,4 +1,6 @@
 -- Opening depends on the slots' contents alone, and head is one past the last slot that isn't erased.
+use Rattle.std.specs.Prelude.{Option, Some, None, Err}
+use Rattle.basics.specs.Answers.{all_done}
 use mathlib.Core.Path.{◌≡◌, refl, ap, ap₂, ◌∙◌}
 use mathlib.Core.Bool.{Bool, true, false}
 use mathlib.Core.List.{List, []}
@@ -10,27 +12,24 @@ use lib.ListN.{length}
 use borrow.Author.Tests.{eqb-true, eqb-false}
 use Rattle.basics.specs.Choice.{pick}
 use Rattle.basics.specs.Lists.{all_are}
-use Rattle.codec.specs.declared.Header.{Header}
 use Rattle.codec.specs.Slots.{header_of}
 use Rattle.flash.specs.Image.{sectors_in, slot_at}
-use Rattle.basics.specs.declared.Answer.TheVariants.{Done, BadImage}
+use Rattle.basics.specs.declared.Refusal.TheVariants.{BadImage}
 use Rattle.records.specs.declared.State.TheVariants.{Failed}
 use Rattle.records.specs.Logs.{log_of}
 use Rattle.scan.specs.declared.RegionScan.{RegionScan}
 use Rattle.scan.specs.declared.Opened.{Opened}
-use Rattle.scan.specs.declared.Chosen.{Chosen}
-use Rattle.scan.specs.declared.Chosen.TheVariants.{Sector, Nothing}
 use Rattle.scan.specs.Choosing.{better, best_from, header_at, chosen_of}
 use Rattle.scan.specs.Reading.{Read, with_slot, read_from, head_from, head_in}
 use Rattle.scan.specs.Opening.{region_read, region_chosen, scan_of, log_from, open_of}
 use Rattle.scan.proofs.ChoosingWinner.{Right, chosen_right}
 
 -- ---- equal contents, equal answers
-pub best_same : (G H : ℕ → Header) (n s : ℕ) (b : Chosen) → ((x : ℕ) → s ≤ x → x < s + n → G x ≡ H x) → best_from n s G b ≡ best_from n s H b
+pub best_same : (G H : ℕ → Option ℕ) (n s : ℕ) (b : Option (ℕ × ℕ)) → ((x : ℕ) → s ≤ x → x < s + n → G x ≡ H x) → best_from n s G b ≡ best_from n s H b
 unfolding best_from
 best_same G H zero s b e = refl
 best_same G H (suc n) s b e =
-    ap (λ (h : Header). best_from n (suc s) G (better b s h)) (e s (omega arith) (omega arith))
+    ap (λ (h : Option ℕ). best_from n (suc s) G (better b s h)) (e s (omega arith) (omega arith))
     ∙ best_same G H n (suc s) (better b s (H s)) (λ x l u. e x (omega arith) (omega arith))
 
 pub read_same : (S T : ℕ → List ℕ) (seq n k : ℕ) (r : Read) → ((x : ℕ) → k ≤ x → x < k + n → S x ≡ T x) → read_from n k seq S r ≡ read_from n k seq T r
@@ -51,10 +50,10 @@ module _ (a b : List ℕ) (long : length a ≡ length b) (alike : (s k : ℕ) �
   n : ℕ
   n = sectors_in (length a)
 
-  region_same : (version : ℕ) (c : Chosen) → Right (header_at version a) n c → region_chosen a c ≡ region_chosen b c
+  region_same : (version : ℕ) (c : Option (ℕ × ℕ)) → Right (header_at version a) n c → region_chosen a c ≡ region_chosen b c
   unfolding n
-  region_same version Nothing w = refl
-  region_same version (Sector s seq) w =
+  region_same version None w = refl
+  region_same version (Some (s, seq)) w =
       ap₂ (region_read s seq)
       (head-same (slot_at a s) (slot_at b s) 255 1 1 (λ x l u. alike s x w.within (omega arith)))
       (read_same (slot_at a s) (slot_at b s) seq 255 1 _ (λ x l u. alike s x w.within (omega arith)))
@@ -64,7 +63,7 @@ module _ (a b : List ℕ) (long : length a ≡ length b) (alike : (s k : ℕ) �
   scan_same version =
       region_same version (chosen_of version n a) (chosen_right (header_at version a) n)
       ∙ ap (region_chosen b)
-      (best_same (header_at version a) (header_at version b) n 0 Nothing (λ x l u. ap (header_of version) (alike x 0 (omega arith) (omega arith)))
+      (best_same (header_at version a) (header_at version b) n 0 None (λ x l u. ap (header_of version) (alike x 0 (omega arith) (omega arith)))
       ∙ ap (λ (m : ℕ). chosen_of version m b) (ap sectors_in long))
 
   -- two images of one size whose slots are the same open to the same
@@ -73,8 +72,8 @@ module _ (a b : List ℕ) (long : length a ≡ length b) (alike : (s k : ℕ) �
   open_same =
       ap₂
       (λ (m : ℕ) (r : RegionScan).
-      pick {A = Opened} (eqb m 0) (record { answer = BadImage; log = log_of Failed 1 [] })
-      (record { answer = Done; log = log_from r }))
+      pick {A = Opened} (eqb m 0) (record { answer = Err BadImage; log = log_of Failed 1 [] })
+      (record { answer = all_done; log = log_from r }))
       (ap sectors_in long) (scan_same 2)
 
 -- ---- head

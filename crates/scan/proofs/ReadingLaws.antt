@@ -1,4 +1,5 @@
 -- One pass over the slots of a sector: what the arrays stand for on the way, and what each kind of slot makes of them.
+use Rattle.std.specs.Prelude.{Option, Some, None}
 use mathlib.Core.Path.{◌≡◌, refl, sym, ap, ap₂, ◌∙◌}
 use mathlib.Core.Bool.{Bool, true, false, ◌||◌}
 use mathlib.Core.List.{List, [], ◌∷◌, ◌++◌, map}
@@ -12,8 +13,7 @@ use Rattle.basics.specs.Choice.{pick}
 use Rattle.basics.specs.Lists.{all_are}
 use Rattle.basics.proofs.ChoiceLaws.{first, second}
 use Rattle.codec.specs.declared.Raw.{Raw}
-use Rattle.codec.specs.declared.OptRaw.{OptRaw}
-use Rattle.codec.specs.Slots.{decoded, some}
+use Rattle.codec.specs.Slots.{decoded}
 use Rattle.codec.proofs.SlotsLaws.{erased-none}
 use Rattle.records.specs.Table.{limit, place_of, key_place, holds, has_key, has_room, falls, absorbed}
 use Rattle.records.specs.Logs.{places}
@@ -88,7 +88,7 @@ module _ (seq : ℕ) (slots : ℕ → List ℕ) where
       low = omega (arith, s.low);
       high = omega arith;
       rest =
-          ap (λ (o : OptRaw). read_from (256 - (k + 1)) (k + 1) seq slots (with_record o s.found)) (sym (erased-none seq (slots k) erased))
+          ap (λ (o : Option Raw). read_from (256 - (k + 1)) (k + 1) seq slots (with_record o s.found)) (sym (erased-none seq (slots k) erased))
           ∙ sym (read_step k (these s.found) more)
           ∙ s.rest;
       heads = ap (λ (b : Bool). head_from (256 - (k + 1)) (k + 1) slots (pick b head (k + 1))) (sym erased) ∙ sym (head_step k head more) ∙ s.heads;
@@ -99,7 +99,7 @@ module _ (seq : ℕ) (slots : ℕ → List ℕ) where
       headed = ap (λ (b : Bool). head_from (256 - (k + 1)) (k + 1) slots (pick b head (k + 1))) (sym used) ∙ sym (head_step k head more) ∙ s.heads
 
       -- what is no record moves head alone
-      pub skip : (decoded seq (slots k)).some ≡ false → Scanning table tags ids count (k + 1) (k + 1)
+      pub skip : decoded seq (slots k) ≡ None → Scanning table tags ids count (k + 1) (k + 1)
       skip no_record = record {
         found = s.found;
         size = s.size;
@@ -112,27 +112,20 @@ module _ (seq : ℕ) (slots : ℕ → List ℕ) where
         low = omega (arith, s.low);
         high = omega arith;
         rest =
-            ap
-            (λ (b : Bool).
-            read_from (256 - (k + 1)) (k + 1) seq slots
-            (pick b
-            (pick (has_room limit (decoded seq (slots k)).raw s.found)
-            (these (absorbed (decoded seq (slots k)).raw s.found)) too_many)
-            (these s.found)))
-            (sym no_record)
+            ap (λ (o : Option Raw). read_from (256 - (k + 1)) (k + 1) seq slots (with_record o s.found)) (sym no_record)
             ∙ sym (read_step k (these s.found) more)
             ∙ s.rest;
         heads = headed;
       }
 
-      module _ (r : Raw) (is-record : decoded seq (slots k) ≡ some r) where
+      module _ (r : Raw) (is-record : decoded seq (slots k) ≡ Some r) where
         abbrev pub at : ℕ
         at = place_of r.tag r.id s.found
 
         taken : has_room limit r s.found ≡ true → read_from (256 - (k + 1)) (k + 1) seq slots (these (absorbed r s.found)) ≡ records_in seq slots
         taken room =
             ap (λ (b : Bool). read_from (256 - (k + 1)) (k + 1) seq slots (pick b (these (absorbed r s.found)) too_many)) (sym room)
-            ∙ ap (λ (o : OptRaw). read_from (256 - (k + 1)) (k + 1) seq slots (with_record o s.found)) (sym is-record)
+            ∙ ap (λ (o : Option Raw). read_from (256 - (k + 1)) (k + 1) seq slots (with_record o s.found)) (sym is-record)
             ∙ sym (read_step k (these s.found) more)
             ∙ s.rest
 
@@ -238,6 +231,6 @@ module _ (seq : ℕ) (slots : ℕ → List ℕ) where
         full h none_left =
             sym s.rest
             ∙ read_step k (these s.found) more
-            ∙ ap (λ (o : OptRaw). read_from (256 - (k + 1)) (k + 1) seq slots (with_record o s.found)) is-record
+            ∙ ap (λ (o : Option Raw). read_from (256 - (k + 1)) (k + 1) seq slots (with_record o s.found)) is-record
             ∙ ap (λ (b : Bool). read_from (256 - (k + 1)) (k + 1) seq slots (pick b (these (absorbed r s.found)) too_many)) (no_room h none_left)
             ∙ read-full (256 - (k + 1)) (k + 1)

@@ -1,7 +1,8 @@
 -- What opening an image gives: always a log.
-use Rattle.std.specs.Prelude.{List, [], ℕ, ◌+◌, min, max, eqb, length}
+use Rattle.std.specs.Prelude.{Option, Some, None, Err, List, [], ℕ, ◌+◌, min, max, eqb, length}
+use Rattle.basics.specs.Answers.{all_done}
 use Rattle.basics.specs.Choice.{pick}
-use Rattle.basics.specs.declared.Answer.TheVariants.{Done, BadImage}
+use Rattle.basics.specs.declared.Refusal.TheVariants.{BadImage}
 use Rattle.codec.specs.declared.Raw.{Raw}
 use Rattle.flash.specs.Image.{sectors_in, slot_at}
 use Rattle.records.specs.declared.State.{State}
@@ -9,8 +10,6 @@ use Rattle.records.specs.declared.State.TheVariants.{Unformatted, Failed, Active
 use Rattle.records.specs.declared.Log.{Log}
 use Rattle.records.specs.Logs.{places, log_of}
 use Rattle.records.specs.Fitting.{seq_max}
-use Rattle.scan.specs.declared.Chosen.{Chosen}
-use Rattle.scan.specs.declared.Chosen.TheVariants.{Sector, Nothing}
 use Rattle.scan.specs.declared.RegionScan.{RegionScan}
 use Rattle.scan.specs.declared.Opened.{Opened}
 use Rattle.scan.specs.Choosing.{chosen_of}
@@ -25,9 +24,9 @@ region_read s seq head too_many = region_of Failed []
 region_read s seq head (these t) = region_of (Active s seq head) t
 
 -- "None: Unformatted."
-abbrev pub region_chosen : List ℕ → Chosen → RegionScan
-region_chosen image Nothing = region_of Unformatted []
-region_chosen image (Sector s seq) = region_read s seq (head_in (slot_at image s)) (records_in seq (slot_at image s))
+abbrev pub region_chosen : List ℕ → Option (ℕ × ℕ) → RegionScan
+region_chosen image None = region_of Unformatted []
+region_chosen image (Some (s, seq)) = region_read s seq (head_in (slot_at image s)) (records_in seq (slot_at image s))
 
 -- the region of an image with headers of this version
 unfoldable pub scan_of : ℕ → List ℕ → RegionScan
@@ -47,5 +46,5 @@ log_from r = record { state = r.state; next_seq = next_of r.state; count = r.cou
 unfoldable pub open_of : List ℕ → Opened
 open_of image =
     pick (eqb (sectors_in (length image)) 0)
-    (record { answer = BadImage; log = log_of Failed 1 [] })
-    (record { answer = Done; log = log_from (scan_of 2 image) })
+    (record { answer = Err BadImage; log = log_of Failed 1 [] })
+    (record { answer = all_done; log = log_from (scan_of 2 image) })

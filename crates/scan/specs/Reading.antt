@@ -1,9 +1,8 @@
 -- "In the winner, slots 1..255 are read in order."
-use Rattle.std.specs.Prelude.{List, [], ℕ, zero, suc}
+use Rattle.std.specs.Prelude.{List, [], ℕ, zero, suc, Option, Some, None}
 use Rattle.basics.specs.Choice.{pick}
 use Rattle.basics.specs.Lists.{all_are}
 use Rattle.codec.specs.declared.Raw.{Raw}
-use Rattle.codec.specs.declared.OptRaw.{OptRaw}
 use Rattle.codec.specs.Slots.{decoded}
 use Rattle.records.specs.Table.{limit, has_room, absorbed}
 
@@ -13,8 +12,9 @@ pub data Read : Type 0 where
   these : List Raw → Read
 
 -- a record is absorbed where there is room for its key; what is no record changes nothing
-abbrev pub with_record : OptRaw → List Raw → Read
-with_record o t = pick o.some (pick (has_room limit o.raw t) (these (absorbed o.raw t)) too_many) (these t)
+abbrev pub with_record : Option Raw → List Raw → Read
+with_record None t = these t
+with_record (Some r) t = pick (has_room limit r t) (these (absorbed r t)) too_many
 
 abbrev pub with_slot : ℕ → List ℕ → Read → Read
 with_slot seq slot too_many = too_many

@@ -14,15 +14,8 @@ ghost use Rattle.scan.specs.Choosing.{better, chosen_of};
 ghost use Rattle.scan.specs.Opening.{next_of};
 
 use basics::Answer;
-use codec::{Header, Raw};
-use records::{LIMIT, Log, SEQ_MAX, State};
-
-// The sector whose header wins, or none.
-#[derive(Clone, Copy)]
-pub enum Chosen {
-    Sector { sector: usize, seq: u32 },
-    Nothing,
-}
+use codec::Raw;
+use records::{LIMIT, Log, State};
 
 // A region as it was found: Unformatted without a header, Failed with more keys than a log can hold.
 #[derive(Clone, Copy)]
@@ -32,7 +25,7 @@ pub struct RegionScan {
     pub table: [Raw; LIMIT],
 }
 
-// What opening answers: always with a log.
+// What opening answers: always with a log, beside a refusal too, so this is no Result.
 #[derive(Clone, Copy)]
 pub struct Opened {
     pub answer: Answer,
@@ -40,44 +33,31 @@ pub struct Opened {
 }
 
 // The better of the best so far and this sector's header: the first one, or one with a higher seq.
-fn better_of(best: Chosen, sector: usize, header: Header) -> Chosen
+fn better_of(best: Option<(usize, u32)>, sector: usize, header: Option<u32>) -> Option<(usize, u32)>
     ensures { result ≡ better best sector header }
 {
-    match header {
-        Header::Invalid => best,
-        Header::Valid(seq) => match best {
-            Chosen::Nothing => Chosen::Sector {
-                sector: sector,
-                seq: seq,
-            },
-            Chosen::Sector {
-                sector: _,
-                seq: most,
-            } => {
-                if most < seq {
-                    Chosen::Sector {
-                        sector: sector,
-                        seq: seq,
-                    }
-                } else {
-                    best
-                }
+    match (best, header) {
+        (_, None) => best,
+        (None, Some(seq)) => Some((sector, seq)),
+        (Some((_, most)), Some(seq)) => {
+            if most < seq {
+                Some((sector, seq))
+            } else {
+                best
             }
-        },
+        }
     }
 }
 
-// The valid header with the highest seq; among equals, the lowest sector.
-fn choose(image: &[u8], sectors: usize, version: u8) -> Chosen
+// The sector of the valid header with the highest seq, and that seq; among equals, the lowest sector.
+fn choose(image: &[u8], sectors: usize, version: u8) -> Option<(usize, u32)>
     requires { (sectors ≤ sectors_most) × (sectors * sector_size ≤ length image.now) }
     ensures { result ≡ chosen_of version sectors image.now }
 {
-    let mut best = Chosen::Nothing;
-    let mut s: usize = 0;
-    while s < sectors {
+    let mut best = None;
+    for s in 0..sectors {
         let h = codec::decode_header(flash::slot(image, s, 0), version);
         best = better_of(best, s, h);
-        s += 1;
     }
     best
 }
@@ -87,12 +67,7 @@ fn next_of(state: State) -> u32
     ensures { result ≡ next_of state }
 {
     match state {
-        State::Active {
-            sector: _,
-            seq,
-            head: _,
-        } => if seq < SEQ_MAX { seq + 1 } else { SEQ_MAX },
-        State::Unformatted => 1,
-        State::Failed => 1,
+        State::Active { seq, .. } => seq.saturating_add(1),
+        State::Unformatted | State::Failed => 1,
     }
 }

@@ -2,8 +2,8 @@
 ghost use Rattle.std.specs.Prelude.{◌≡◌};
 ghost use Rattle.scan.specs.Opening.{scan_of, open_of};
 
-use crate::{Chosen, Opened, RegionScan, sector};
-use basics::Answer;
+use crate::{Opened, RegionScan, sector};
+use basics::Refusal;
 use records::{Log, State};
 
 // What the image holds, by its headers of this version.
@@ -12,7 +12,7 @@ pub fn scan_region(image: &[u8], version: u8) -> RegionScan
 {
     let n = flash::sectors(image.len());
     match crate::choose(image, n, version) {
-        Chosen::Nothing => {
+        None => {
             let t = records::empty_table();
             RegionScan {
                 state: State::Unformatted,
@@ -20,7 +20,7 @@ pub fn scan_region(image: &[u8], version: u8) -> RegionScan
                 table: t,
             }
         }
-        Chosen::Sector { sector, seq } => sector::scan_sector(image, sector, seq),
+        Some((sector, seq)) => sector::scan_sector(image, sector, seq),
     }
 }
 
@@ -31,21 +31,20 @@ pub fn open(image: &[u8]) -> Opened
     if flash::sectors(image.len()) == 0 {
         let none = records::empty(State::Failed, 1);
         return Opened {
-            answer: Answer::BadImage,
+            answer: Err(Refusal::BadImage),
             log: none,
         };
     }
     let r = scan_region(image, codec::FORMAT_VERSION);
-    let state = r.state;
     let table = r.table;
     let log = Log {
-        state: state,
-        next_seq: crate::next_of(state),
+        state: r.state,
+        next_seq: crate::next_of(r.state),
         count: r.count,
-        table: table,
+        table,
     };
     Opened {
-        answer: Answer::Done,
-        log: log,
+        answer: Ok(()),
+        log,
     }
 }

@@ -19,19 +19,15 @@ pub fn scan_sector(image: &[u8], sector: usize, seq: u32) -> RegionScan
     let mut ids = [0u8; LIMIT];
     let mut count: usize = 0;
     let mut head: u32 = 1;
-    let mut k: usize = 1;
-    while k < SLOTS {
+    for k in 1..SLOTS {
         let slot = flash::slot(image, sector, k);
-        k += 1;
         if codec::is_erased(slot) {
             continue;
         }
-        head = k as u32;
-        let d = codec::decode_from(slot, start);
-        if !d.some {
+        head = k as u32 + 1;
+        let Some(r) = codec::decode_from(slot, start) else {
             continue;
-        }
-        let r = d.raw;
+        };
         let at = records::find(&tags, &ids, count, r.tag, r.id);
         if at < count {
             if records::replaces(r, table[at]) {
@@ -50,13 +46,13 @@ pub fn scan_sector(image: &[u8], sector: usize, seq: u32) -> RegionScan
     }
     let state = State::Active {
         sector: sector as u32,
-        seq: seq,
-        head: head,
+        seq,
+        head,
     };
     RegionScan {
-        state: state,
-        count: count,
-        table: table,
+        state,
+        count,
+        table,
     }
 }
 

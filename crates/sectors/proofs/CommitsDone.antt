@@ -1,4 +1,6 @@
 -- What a commit that is done has made: an Active state in one of the sectors, one past its records, and the next number.
+use Rattle.std.specs.Prelude.{Err}
+use Rattle.basics.specs.Answers.{all_done, is_done, Answer}
 use mathlib.Core.Path.{◌≡◌, refl, sym, ◌∙◌}
 use mathlib.Core.Bool.{true, false, false≢true}
 use mathlib.Core.List.{List}
@@ -7,9 +9,7 @@ use lib.Dec.{eqb}
 use lib.ListN.{length}
 use Rattle.records.specs.Fitting.{seq_max}
 use Rattle.basics.specs.Choice.{pick}
-use Rattle.basics.specs.Answers.{is_done}
-use Rattle.basics.specs.declared.Answer.{Answer}
-use Rattle.basics.specs.declared.Answer.TheVariants.{Done, WriteError}
+use Rattle.basics.specs.declared.Refusal.TheVariants.{WriteError}
 use Rattle.basics.proofs.ChoiceLaws.{by_test}
 use Rattle.codec.specs.declared.Raw.{Raw}
 use Rattle.flash.specs.Run.{Flash}
@@ -34,8 +34,8 @@ committed (suc m) n avoid s t last state next f h l =
     let o = write_sector s next t f in
     let skipped = commit_from m n avoid (sector_after n s) t last state next f in
     let further = commit_from m n avoid (sector_after n s) t o.answer state (next + 1) o.flash in
-    let held : Written = record { answer = WriteError; state = state; next = next; flash = f } in
-    let done : Written = record { answer = Done; state = Active s next (length t + 1); next = next + 1; flash = o.flash } in
+    let held : Written = record { answer = Err WriteError; state = state; next = next; flash = f } in
+    let done : Written = record { answer = all_done; state = Active s next (length t + 1); next = next + 1; flash = o.flash } in
     let P : Written → Type 0 = λ (w : Written). is_done w.answer ≡ true → Committed n t w in
     by_test P (eqb s avoid) skipped (pick (eqb next seq_max) held (pick (is_done o.answer) done further))
     (λ e. committed m n avoid (sector_after n s) t last state next f (after-within n s h) l)

@@ -1,4 +1,6 @@
 -- What writing costs at most: sixteen bytes a slot, 4,096 a sector; and that the image keeps its length.
+use Rattle.std.specs.Prelude.{Err}
+use Rattle.basics.specs.Answers.{all_done, is_done, Answer}
 use mathlib.Core.Bool.{Bool, true, false}
 use mathlib.Core.List.{List, [], ◌∷◌}
 use Prim.Native.Nat.{ℕ, zero, suc, ◌+◌, ◌*◌, ◌≤◌}
@@ -7,9 +9,7 @@ use lib.Dec.{eqb}
 use lib.ListN.{length}
 use Rattle.records.specs.Fitting.{seq_max}
 use Rattle.basics.specs.Choice.{pick}
-use Rattle.basics.specs.Answers.{is_done}
-use Rattle.basics.specs.declared.Answer.{Answer}
-use Rattle.basics.specs.declared.Answer.TheVariants.{Done, WriteError}
+use Rattle.basics.specs.declared.Refusal.TheVariants.{WriteError}
 use Rattle.codec.specs.declared.Raw.{Raw}
 use Rattle.codec.specs.Slots.{slot_of, header_slot}
 use Rattle.flash.specs.Run.{Flash, Stepped, program, erase}
@@ -82,11 +82,11 @@ tries-within (suc m) s head bytes last f =
     let again = tries_from m s (head + 1) bytes o.answer o.flash in
     let ih = tries-within m s (head + 1) bytes o.answer o.flash in
     by_test (λ (r : SlotTries). Within (16 * suc m) 0 f r.flash) (eqb head 256) (record { full = true; answer = last; head = head; flash = f })
-    (pick (is_done o.answer) (record { full = false; answer = Done; head = head + 1; flash = o.flash }) again)
+    (pick (is_done o.answer) (record { full = false; answer = all_done; head = head + 1; flash = o.flash }) again)
     (λ e. record { programmed = omega arith; erased = omega arith })
     (λ e.
     by_test (λ (r : SlotTries). Within (16 * suc m) 0 f r.flash) (is_done o.answer)
-    (record { full = false; answer = Done; head = head + 1; flash = o.flash }) again
+    (record { full = false; answer = all_done; head = head + 1; flash = o.flash }) again
     (λ d. record { programmed = omega (arith, w.programmed); erased = omega (arith, w.erased) })
     (λ d. record { programmed = omega (arith, w.programmed, ih.programmed); erased = omega (arith, w.erased, ih.erased) }))
 
@@ -100,8 +100,8 @@ commit-within (suc m) n avoid s t last state next f =
     let one = 16 * length t + 16 in
     let skipped = commit_from m n avoid (sector_after n s) t last state next f in
     let further = commit_from m n avoid (sector_after n s) t o.answer state (next + 1) o.flash in
-    let held : Written = record { answer = WriteError; state = state; next = next; flash = f } in
-    let done : Written = record { answer = Done; state = Active s next (length t + 1); next = next + 1; flash = o.flash } in
+    let held : Written = record { answer = Err WriteError; state = state; next = next; flash = f } in
+    let done : Written = record { answer = all_done; state = Active s next (length t + 1); next = next + 1; flash = o.flash } in
     let i = commit-within m n avoid (sector_after n s) t last state next f in
     let j = commit-within m n avoid (sector_after n s) t o.answer state (next + 1) o.flash in
     let P : Written → Type 0 = λ (r : Written). Within (suc m * one) (suc m * 4096) f r.flash in

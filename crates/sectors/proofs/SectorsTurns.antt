@@ -1,4 +1,6 @@
 -- The loops of writing, one turn at a time: what is left to do, from the flash as it stands, comes to what the whole does.
+use Rattle.std.specs.Prelude.{Err}
+use Rattle.basics.specs.Answers.{all_done, is_done, Answer}
 use mathlib.Core.Path.{◌≡◌, ap, ap₂, ◌∙◌}
 use mathlib.Core.Bool.{Bool, true, false}
 use mathlib.Core.List.{List}
@@ -10,9 +12,7 @@ use lib.Seq.{drop-cons}
 use borrow.Author.Tests.{eq-eqb, ne_eqb, eqb-false}
 use Rattle.records.specs.Fitting.{seq_max}
 use Rattle.basics.specs.Choice.{pick}
-use Rattle.basics.specs.Answers.{is_done}
-use Rattle.basics.specs.declared.Answer.{Answer}
-use Rattle.basics.specs.declared.Answer.TheVariants.{Done, WriteError}
+use Rattle.basics.specs.declared.Refusal.TheVariants.{WriteError}
 use Rattle.basics.proofs.ChoiceLaws.{by_test}
 use Rattle.codec.specs.declared.Raw.{Raw}
 use Rattle.codec.specs.Slots.{slot_of, header_slot}
@@ -26,7 +26,7 @@ use Rattle.sectors.specs.Appends.{SlotTries, tries_from, append_of}
 
 -- ---- the records of a sector, i of them written
 module _ (s seq : ℕ) (t : List Raw) (i : ℕ) (f : Flash) where
-  pub records_end : length t ≤ i → write_records s seq (i + 1) (drop i t) f ≡ record { answer = Done; flash = f }
+  pub records_end : length t ≤ i → write_records s seq (i + 1) (drop i t) f ≡ record { answer = all_done; flash = f }
   unfolding write_records
   records_end h = rw (drop_of_length-le t h)
 
@@ -86,14 +86,14 @@ module _ (left n avoid s : ℕ) (t : List Raw) (last : Answer) (state : State) (
 
   module _ (apart : s ≡ avoid → ⊥) where
     pub commit-used-up : next ≡ seq_max
-        → commit_from left n avoid s t last state next f ≡ record { answer = WriteError; state = state; next = next; flash = f }
+        → commit_from left n avoid s t last state next f ≡ record { answer = Err WriteError; state = state; next = next; flash = f }
     unfolding commit_from
     commit-used-up e = ap (λ (m : ℕ). commit_from m n avoid s t last state next f) unrolled ∙ rw (ne_eqb s avoid apart, eq-eqb next seq_max e)
 
     module _ (fresh : next ≡ seq_max → ⊥) where
       pub commit-done : is_done (write_sector s next t f).answer ≡ true
           → commit_from left n avoid s t last state next f
-          ≡ record { answer = Done; state = Active s next (length t + 1); next = next + 1; flash = (write_sector s next t f).flash }
+          ≡ record { answer = all_done; state = Active s next (length t + 1); next = next + 1; flash = (write_sector s next t f).flash }
       unfolding commit_from
       commit-done d = ap (λ (m : ℕ). commit_from m n avoid s t last state next f) unrolled ∙ rw (ne_eqb s avoid apart, ne_eqb next seq_max fresh, d)
 
@@ -125,7 +125,7 @@ module _ (left s head : ℕ) (bytes : List ℕ) (last : Answer) (f : Flash) wher
 
     module _ (room : head ≡ 256 → ⊥) where
       pub tries-done : is_done (program s head bytes f).answer ≡ true
-          → tries_from left s head bytes last f ≡ record { full = false; answer = Done; head = head + 1; flash = (program s head bytes f).flash }
+          → tries_from left s head bytes last f ≡ record { full = false; answer = all_done; head = head + 1; flash = (program s head bytes f).flash }
       unfolding tries_from
       tries-done d = ap (λ (m : ℕ). tries_from m s head bytes last f) unwound ∙ rw (ne_eqb head 256 room, d)
 
@@ -137,7 +137,7 @@ module _ (left s head : ℕ) (bytes : List ℕ) (last : Answer) (f : Flash) wher
 
 -- ---- an append, by what its tries come to
 module _ (n s seq head next : ℕ) (r : Raw) (t : List Raw) (f : Flash) (w : SlotTries)
-    (tried : tries_from 3 s head (slot_of seq r) WriteError f ≡ w) where
+    (tried : tries_from 3 s head (slot_of seq r) (Err WriteError) f ≡ w) where
   pub append-full : w.full ≡ true → append_of n s seq head next r t f ≡ commit_after n s t (Active s seq w.head) next w.flash
   unfolding append_of
   append-full e = rw (tried, e)

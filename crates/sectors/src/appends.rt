@@ -1,14 +1,14 @@
 // An append: one record into the active sector in up to three tries,
 // or a commit where that sector is full.
-ghost use Rattle.std.specs.Prelude.{Bool, ◌≤◌, length, take};
-ghost use Rattle.basics.specs.declared.Answer.TheVariants.{WriteError};
+ghost use Rattle.std.specs.Prelude.{Err, Bool, ◌≤◌, length, take};
+ghost use Rattle.basics.specs.declared.Refusal.TheVariants.{WriteError};
 ghost use Rattle.records.specs.Fitting.{head_max};
 ghost use Rattle.sectors.specs.Asks.{HasSector, SlotsMore, CanAppend};
 ghost use Rattle.sectors.specs.Appends.{tries_from, append_of};
 ghost use Rattle.sectors.specs.Shown.{flash_with, ShowsWrote, ShowsTried};
 
 use crate::{Tried, Used, Wrote, commits};
-use basics::Answer;
+use basics::Refusal;
 use codec::{Raw, SLOT};
 use records::{HEAD_MAX, LIMIT, State};
 
@@ -16,31 +16,29 @@ use records::{HEAD_MAX, LIMIT, State};
 fn try_slots(image: &mut [u8], sector: usize, head: u32, bytes: [u8; SLOT], used: Used) -> Tried
     requires { (head ≤ head_max) × HasSector (length image.old) sector × SlotsMore 3 used }
     ensures { (cut : Bool)
-        → ShowsTried (tries_from 3 sector head bytes WriteError (flash_with image.old used cut)) result image.new }
+        → ShowsTried (tries_from 3 sector head bytes (Err WriteError) (flash_with image.old used cut)) result image.new }
 {
-    let mut answer = Answer::WriteError;
+    let mut answer = Err(Refusal::WriteError);
     let mut h = head;
     let mut u = used;
-    let mut left: u32 = 3;
-    while 0 < left {
+    for _ in 0..3u32 {
         let is_full = h == HEAD_MAX;
         if is_full {
             return Tried {
                 full: true,
-                answer: answer,
+                answer,
                 head: h,
                 used: u,
             };
         }
         let s = crate::program(image, sector, h as usize, bytes, u);
         h += 1;
-        left -= 1;
         u = s.used;
         answer = s.answer;
-        if basics::is_done(answer) {
+        if answer.is_ok() {
             return Tried {
                 full: false,
-                answer: Answer::Done,
+                answer: Ok(()),
                 head: h,
                 used: u,
             };
@@ -48,7 +46,7 @@ fn try_slots(image: &mut [u8], sector: usize, head: u32, bytes: [u8; SLOT], used
     }
     Tried {
         full: false,
-        answer: answer,
+        answer,
         head: h,
         used: u,
     }
@@ -76,7 +74,7 @@ pub fn append(
     let w = try_slots(image, sector, head, codec::encode(record, seq), used);
     let here = State::Active {
         sector: sector as u32,
-        seq: seq,
+        seq,
         head: w.head,
     };
     let u = w.used;
@@ -88,9 +86,9 @@ pub fn append(
     }
     let answer = w.answer;
     Wrote {
-        answer: answer,
+        answer,
         state: here,
-        next_seq: next_seq,
+        next_seq,
         used: u,
     }
 }

@@ -1,13 +1,13 @@
 // A commit: the table of records written to a new sector, in turn from a first one,
 // until one takes it.
-ghost use Rattle.std.specs.Prelude.{◌≡◌, Bool, ◌<◌, length, take};
-ghost use Rattle.basics.specs.declared.Answer.TheVariants.{WriteError};
+ghost use Rattle.std.specs.Prelude.{Err, ◌≡◌, Bool, ◌<◌, length, take};
+ghost use Rattle.basics.specs.declared.Refusal.TheVariants.{WriteError};
 ghost use Rattle.sectors.specs.Asks.{CanCommit};
 ghost use Rattle.sectors.specs.Commits.{sector_after, commit_from};
 ghost use Rattle.sectors.specs.Shown.{flash_with, ShowsWrote};
 
 use crate::{Used, Wrote, rewrites};
-use basics::Answer;
+use basics::Refusal;
 use codec::Raw;
 use records::{LIMIT, SEQ_MAX, State};
 
@@ -34,27 +34,25 @@ pub fn commit(
     requires { CanCommit (length image.old) sectors count used × (first < sectors) }
     ensures { (cut : Bool)
         → ShowsWrote
-        (commit_from sectors sectors avoid first (take count table) WriteError state next_seq
+        (commit_from sectors sectors avoid first (take count table) (Err WriteError) state next_seq
         (flash_with image.old used cut))
         result image.new }
 {
-    let mut answer = Answer::WriteError;
+    let mut answer = Err(Refusal::WriteError);
     let mut next = next_seq;
     let mut u = used;
     let mut s = first;
-    let mut left = sectors;
-    while 0 < left {
+    for _ in 0..sectors {
         let here = s;
         s = sector_after(sectors, s);
-        left -= 1;
         let is_avoided = here == avoid;
         if is_avoided {
             continue;
         }
         if next == SEQ_MAX {
             return Wrote {
-                answer: Answer::WriteError,
-                state: state,
+                answer: Err(Refusal::WriteError),
+                state,
                 next_seq: next,
                 used: u,
             };
@@ -64,14 +62,14 @@ pub fn commit(
         next = seq + 1;
         u = w.used;
         answer = w.answer;
-        if basics::is_done(answer) {
+        if answer.is_ok() {
             let active = State::Active {
                 sector: here as u32,
-                seq: seq,
+                seq,
                 head: count as u32 + 1,
             };
             return Wrote {
-                answer: Answer::Done,
+                answer: Ok(()),
                 state: active,
                 next_seq: next,
                 used: u,
@@ -79,8 +77,8 @@ pub fn commit(
         }
     }
     Wrote {
-        answer: answer,
-        state: state,
+        answer,
+        state,
         next_seq: next,
         used: u,
     }

@@ -64,7 +64,7 @@ pub fn program(image: &mut [u8], sector: usize, slot: usize, bytes: [u8; SLOT], 
     let answer = flash::program_slot(image, sector, slot, bytes, n);
     let left = flash::after_program(plan);
     Step {
-        answer: answer,
+        answer,
         used: Used {
             plan: left,
             programmed: used.programmed + n,
@@ -83,7 +83,7 @@ pub fn erase(image: &mut [u8], sector: usize, used: Used) -> Step
     let answer = flash::erase_sector(image, sector, n);
     let left = flash::after_erase(plan);
     Step {
-        answer: answer,
+        answer,
         used: Used {
             plan: left,
             programmed: used.programmed,

@@ -6,7 +6,6 @@ ghost use Rattle.sectors.specs.Sectors.{write_records, write_sector};
 ghost use Rattle.sectors.specs.Shown.{flash_with, ShowsStep};
 
 use crate::{Step, Used};
-use basics::Answer;
 use codec::Raw;
 use records::LIMIT;
 
@@ -25,19 +24,17 @@ fn write_records(
 {
     let start = codec::under(seq);
     let mut u = used;
-    let mut i: usize = 0;
-    while i < count {
+    for i in 0..count {
         let r = table[i];
         let s = crate::program(image, sector, i + 1, codec::encode_from(r, start), u);
         let answer = s.answer;
-        if !basics::is_done(answer) {
+        if !answer.is_ok() {
             return s;
         }
         u = s.used;
-        i += 1;
     }
     Step {
-        answer: Answer::Done,
+        answer: Ok(()),
         used: u,
     }
 }
@@ -57,12 +54,12 @@ pub fn write_sector(
 {
     let e = crate::erase(image, sector, used);
     let erased = e.answer;
-    if !basics::is_done(erased) {
+    if !erased.is_ok() {
         return e;
     }
     let w = write_records(image, sector, seq, table, count, e.used);
     let written = w.answer;
-    if !basics::is_done(written) {
+    if !written.is_ok() {
         return w;
     }
     crate::program(image, sector, 0, codec::encode_header(seq), w.used)

@@ -1,12 +1,12 @@
 -- `list::list` meets its contract.
-use mathlib.Core.Path.{◌≡◌, sym, subst, ◌∙◌}
+use mathlib.Core.Path.{◌≡◌, sym, ap, subst, ◌∙◌}
 use mathlib.Core.List.{List}
 use Prim.Native.Nat.{ℕ, ◌+◌, ◌≤◌}
 use native.Mathlib.Omega.{arith}
 use lib.Dec.{T}
 use lib.ListN.{length, length-append}
 use lib.Pow.{are_bytes}
-use borrow.Author.Tests.{not-true, not-false}
+use mathlib.Core.Bool.{not}
 use Rattle.basics.proofs.ListsLaws.{bytes-all}
 use Rattle.records.specs.declared.State.{State}
 use Rattle.records.specs.declared.State.TheVariants.{Unformatted, Failed, Active}
@@ -24,12 +24,12 @@ returns-then-out-lt-LONGEST c =
     let out = c.args.out.now in
     subst (λ (t : List ℕ). Puts out 0 t out 0) (sym (too_short (length out) c.args.image.now c.if-out-lt-LONGEST.true)) (put-none out 0)
 
-pub returns-then-not-is_done : goal.returns-then-not-is_done
-returns-then-not-is_done c =
+pub returns-then-is_err : goal.returns-then-is_err
+returns-then-is_err c =
     let listed : List ℕ = listing_in (length c.args.out.now) c.args.image.now in
     let holds : (text : List ℕ) → (after : List ℕ) → (r : ℕ) → listed ≡ text → Puts c.args.out.now 0 text after r
     → Puts c.args.out.now 0 listed after r = λ text after r e p. subst (λ (t : List ℕ). Puts c.args.out.now 0 t after r) (sym e) p in
-    let refused = sym c.is_done.ensures ∙ not-true c.is_done.result c.if-not-is_done.true-raw in
+    let refused = c.is_err.ensures.negation ∙ ap not c.if-is_err.true in
     holds bad_image c.put_bytes.new.out c.put_bytes.result
     (no_image (length c.args.out.now) c.args.image.now c.open-o.result c.if-out-lt-LONGEST.false c.open-o.ensures refused)
     c.put_bytes.ensures
@@ -73,7 +73,7 @@ returns-in-Unformatted c =
     c in o.open-o.result.log.state ≡ state → listed
     ≡ state_listing o.open-o.result.log state = λ state e. in_state (length c.args.out.now) c.args.image.now c.open-o.result c.if-out-lt-LONGEST.false
     c.open-o.ensures
-    (sym c.is_done.ensures ∙ not-false c.is_done.result c.if-not-is_done.false-raw) state e in
+    (c.is_err.ensures.negation ∙ ap not c.if-is_err.false) state e in
     holds _ c.put_bytes-in-Unformatted.new.out c.put_bytes-in-Unformatted.result
     (state_says Unformatted c.in-Unformatted.is) c.put_bytes-in-Unformatted.ensures
 
@@ -86,7 +86,7 @@ returns-in-Failed c =
     c in o.open-o.result.log.state ≡ state → listed
     ≡ state_listing o.open-o.result.log state = λ state e. in_state (length c.args.out.now) c.args.image.now c.open-o.result c.if-out-lt-LONGEST.false
     c.open-o.ensures
-    (sym c.is_done.ensures ∙ not-false c.is_done.result c.if-not-is_done.false-raw) state e in
+    (c.is_err.ensures.negation ∙ ap not c.if-is_err.false) state e in
     holds _ c.put_bytes-in-Failed.new.out c.put_bytes-in-Failed.result
     (state_says Failed c.in-Failed.is) c.put_bytes-in-Failed.ensures
 
@@ -101,7 +101,7 @@ returns-in-Active c =
     let state_says : (state : State) → let o =
     c in o.open-o.result.log.state ≡ state → listed ≡ state_listing o.open-o.result.log state = λ state e. let o = c in
     in_state (length o.args.out.now) o.args.image.now o.open-o.result o.if-out-lt-LONGEST.false o.open-o.ensures
-    (sym c.is_done.ensures ∙ not-false c.is_done.result c.if-not-is_done.false-raw) state e in
+    (c.is_err.ensures.negation ∙ ap not c.if-is_err.false) state e in
     let active : State = Active c.in-Active.sector c.in-Active.seq c.in-Active.head in
     let room : let o = c in 0 + length (state_listing o.open-o.result.log active) ≤ length o.args.out.now = let o = c in
     let log = o.open-o.result.log in

@@ -1,11 +1,8 @@
--- `list::put_record` meets its contract. The loop's invariant: of the body's numbers all stand but those from place i on.
-use Prim.Native.Nat.{◌-◌, ◌≤◌}
+-- `list::put_record` meets its contract. The loop's invariant: of the record's line all stands but the body's numbers from place b-index on.
 use Rattle.text.proofs.TextPutting.{Begun}
+use Rattle.list.specs.Listing.{record_line}
 use Rattle.list.proofs.ListingLines.{line_from}
 use Rattle.list.proofs.put_record.Given as goal
 
-abbrev pub invariant-loop-i : goal.invariant-loop-i
-invariant-loop-i l = (l.i ≤ 9) × Begun l.initial.out l.initial.to (line_from l.body 0) (line_from l.body l.i) l.out l.to
-
-abbrev pub decreases-loop-i : goal.decreases-loop-i
-decreases-loop-i l = 9 - l.i
+abbrev pub invariant-loop-b : goal.invariant-loop-b
+invariant-loop-b l = Begun l.fn.out l.at (record_line l.fn.r) (line_from l.fn.r.body l.b-index) l.out l.to

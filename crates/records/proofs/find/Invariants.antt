@@ -1,6 +1,5 @@
 -- `records::find` meets its contract. The loop's invariant: what is found from here on is what is found in all.
 use mathlib.Core.Path.{◌≡◌}
-use Prim.Native.Nat.{◌-◌, ◌≤◌}
 use lib.ListN.{take}
 use Rattle.records.specs.Table.{key_place}
 use Rattle.records.proofs.TableFinding.{found}
@@ -8,7 +7,4 @@ use Rattle.records.proofs.find.Given as goal
 
 abbrev pub invariant-loop-i : goal.invariant-loop-i
 invariant-loop-i l =
-    (l.i ≤ l.count) × (found l.tag l.id l.i (take l.count l.tags) (take l.count l.ids) ≡ key_place l.tag l.id (take l.count l.tags) (take l.count l.ids))
-
-abbrev pub decreases-loop-i : goal.decreases-loop-i
-decreases-loop-i l = l.count - l.i
+    found l.tag l.id l.i (take l.count l.tags) (take l.count l.ids) ≡ key_place l.tag l.id (take l.count l.tags) (take l.count l.ids)

@@ -2,8 +2,5 @@
 use native.Mathlib.Omega.{arith}
 use Rattle.scan.proofs.next_of.Goals as goal
 
-pub returns-then-seq-lt-SEQ_MAX : goal.returns-then-seq-lt-SEQ_MAX
-returns-then-seq-lt-SEQ_MAX c = rw c.in-Active.is (omega arith)
-
-pub returns-else-seq-lt-SEQ_MAX : goal.returns-else-seq-lt-SEQ_MAX
-returns-else-seq-lt-SEQ_MAX c = rw c.in-Active.is (omega arith)
+pub returns-in-Active : goal.returns-in-Active
+returns-in-Active c = rw c.in-Active.is (omega (arith, c.saturating_add.ensures))

@@ -7,25 +7,23 @@ use Rattle.records.proofs.lookup.look.Goals as goal
 pub returns-then-has_no_seq : goal.returns-then-has_no_seq
 returns-then-has_no_seq c =
     let a = c.args in
-    c.misfit.ensures ∙ no_seq a.sectors a.tag a.id a.log c.if-has_no_seq.true
+    no_seq a.sectors a.tag a.id a.log c.if-has_no_seq.true
 
 pub returns-then-is_over : goal.returns-then-is_over
 returns-then-is_over c =
     let a = c.args in
-    c.misfit-then-is_over.ensures ∙ looked_of_many a.sectors a.tag a.id a.log c.if-is_over.true
+    looked_of_many a.sectors a.tag a.id a.log c.if-is_over.true
 
 pub returns-then-not-state_fits : goal.returns-then-not-state_fits
 returns-then-not-state_fits c =
     let a = c.args in
-    c.misfit-then-not-state_fits.ensures
-    ∙ bad_state a.sectors a.tag a.id a.log
+    bad_state a.sectors a.tag a.id a.log
     (sym c.state_fits.ensures ∙ not-true c.state_fits.result c.if-not-state_fits.true-raw)
 
 pub returns-then-not-zeros_past : goal.returns-then-not-zeros_past
 returns-then-not-zeros_past c =
     let a = c.args in
-    c.misfit-then-not-zeros_past.ensures
-    ∙ bad_places a.sectors a.tag a.id a.log
+    bad_places a.sectors a.tag a.id a.log
     (sym c.zeros_past.ensures ∙ not-true c.zeros_past.result c.if-not-zeros_past.true-raw)
 
 pub returns : goal.returns

@@ -16,28 +16,28 @@ pub scan_sector-requires : goal.scan_sector-requires
 scan_sector-requires c =
     let a = c.args in
     let n = c.sectors-n.result in
-    let wins : Wins (header_at a.version a.image.now) n c.in-Sector.sector c.in-Sector.seq =
-    subst (Right (header_at a.version a.image.now) n) (sym c.choose.ensures ∙ c.in-Sector.is)
+    let wins : Wins (header_at a.version a.image.now) n c.in-Some.sector c.in-Some.seq =
+    subst (Right (header_at a.version a.image.now) n) (sym c.choose.ensures ∙ c.in-Some.is)
     (chosen_right (header_at a.version a.image.now) n) in
     let fit = sectors-fit (length a.image.now) in
     (omega (arith, wins.within, fit.0, c.sectors-n.ensures), omega (arith, wins.within, fit.1, c.sectors-n.ensures))
 
-pub returns-in-Nothing : goal.returns-in-Nothing
+pub returns-in-None : goal.returns-in-None
 unfolding scan_of
-returns-in-Nothing c =
+returns-in-None c =
     let a = c.args in
     rw c.empty_table-t.ensures
     (ap (region_chosen a.image.now)
-    (sym c.in-Nothing.is
+    (sym c.in-None.is
     ∙ c.choose.ensures
     ∙ ap (λ (n : ℕ). chosen_of a.version n a.image.now) c.sectors-n.ensures))
 
-pub returns-in-Sector : goal.returns-in-Sector
+pub returns-in-Some : goal.returns-in-Some
 unfolding scan_of
-returns-in-Sector c =
+returns-in-Some c =
     let a = c.args in
     c.scan_sector.ensures
     ∙ ap (region_chosen a.image.now)
-    (sym c.in-Sector.is
+    (sym c.in-Some.is
     ∙ c.choose.ensures
     ∙ ap (λ (n : ℕ). chosen_of a.version n a.image.now) c.sectors-n.ensures)

@@ -1,6 +1,5 @@
 -- `scan::sector::scan_sector` meets its contract.
 use mathlib.Core.Path.{◌≡◌}
-use Prim.Native.Nat.{◌-◌}
 use Rattle.codec.specs.Slots.{seq_fed}
 use Rattle.flash.specs.Image.{slot_at}
 use Rattle.scan.proofs.ReadingLaws.{Scanning}
@@ -9,6 +8,3 @@ use Rattle.scan.proofs.sector.scan_sector.Given as goal
 abbrev pub invariant-loop-k : goal.invariant-loop-k
 invariant-loop-k l =
     (l.start ≡ seq_fed l.seq) × Scanning l.seq (slot_at l.image l.sector) l.table l.tags l.ids l.count l.head l.k
-
-abbrev pub decreases-loop-k : goal.decreases-loop-k
-decreases-loop-k l = 256 - l.k

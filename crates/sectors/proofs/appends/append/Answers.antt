@@ -1,11 +1,12 @@
 -- `sectors::appends::append` meets its contract.
+use Rattle.std.specs.Prelude.{Err}
 use mathlib.Core.Path.{◌≡◌, refl, ap}
 use mathlib.Core.Bool.{Bool, true}
 use mathlib.Core.List.{List}
 use Prim.Native.Nat.{◌+◌, ◌≤◌}
 use native.Mathlib.Omega.{arith}
 use lib.ListN.{take}
-use Rattle.basics.specs.declared.Answer.TheVariants.{WriteError}
+use Rattle.basics.specs.declared.Refusal.TheVariants.{WriteError}
 use Rattle.codec.specs.declared.Raw.{Raw}
 use Rattle.codec.specs.Slots.{slot_of}
 use Rattle.flash.specs.Run.{Flash}
@@ -25,7 +26,7 @@ sector_after-first-requires c = c.requires.active
 pub commit-requires : goal.commit-requires
 commit-requires c =
     let flash-of : Bool → Flash = λ cut. flash_with c.args.image.now c.args.used cut in
-    let trying : Bool → SlotTries = λ cut. let a = c.args in tries_from 3 a.sector a.head (slot_of a.seq a.«record») WriteError (flash-of cut) in
+    let trying : Bool → SlotTries = λ cut. let a = c.args in tries_from 3 a.sector a.head (slot_of a.seq a.«record») (Err WriteError) (flash-of cut) in
     let shown_of : Bool → SlotTries = λ cut. record {
       full = c.try_slots-w.result.full;
       answer = c.try_slots-w.result.answer;
@@ -36,7 +37,7 @@ commit-requires c =
     λ cut. tries_are (trying cut) c.try_slots-w.result c.try_slots-w.new.image (rw c.encode.ensures at (c.try_slots-w.ensures cut)) in
     let cheap : let u = c.args.used in (c.try_slots-w.result.used.programmed ≤ u.programmed + 48) × (c.try_slots-w.result.used.erased ≤ u.erased) =
     let a = c.args in
-    let most = tries-within 3 a.sector a.head (slot_of a.seq a.«record») WriteError (flash-of true) in (
+    let most = tries-within 3 a.sector a.head (slot_of a.seq a.«record») (Err WriteError) (flash-of true) in (
       omega (arith, most.programmed, ap (λ (o : SlotTries). o.flash.programmed) (tried-is true)),
       omega (arith, most.erased, ap (λ (o : SlotTries). o.flash.erased) (tried-is true)),
     ) in
@@ -56,7 +57,7 @@ pub returns-then-w : goal.returns-then-w
 returns-then-w c =
     let flash-of : Bool → Flash = λ cut. flash_with c.args.image.now c.args.used cut in
     let records-of : List Raw = take c.args.count c.args.table in
-    let trying : Bool → SlotTries = λ cut. let a = c.args in tries_from 3 a.sector a.head (slot_of a.seq a.«record») WriteError (flash-of cut) in
+    let trying : Bool → SlotTries = λ cut. let a = c.args in tries_from 3 a.sector a.head (slot_of a.seq a.«record») (Err WriteError) (flash-of cut) in
     let shown_of : Bool → SlotTries = λ cut. record {
       full = c.try_slots-w.result.full;
       answer = c.try_slots-w.result.answer;
@@ -76,7 +77,7 @@ pub returns : goal.returns
 returns c =
     let flash-of : Bool → Flash = λ cut. flash_with c.args.image.now c.args.used cut in
     let records-of : List Raw = take c.args.count c.args.table in
-    let trying : Bool → SlotTries = λ cut. let a = c.args in tries_from 3 a.sector a.head (slot_of a.seq a.«record») WriteError (flash-of cut) in
+    let trying : Bool → SlotTries = λ cut. let a = c.args in tries_from 3 a.sector a.head (slot_of a.seq a.«record») (Err WriteError) (flash-of cut) in
     let shown_of : Bool → SlotTries = λ cut. record {
       full = c.try_slots-w.result.full;
       answer = c.try_slots-w.result.answer;

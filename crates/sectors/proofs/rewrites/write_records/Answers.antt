@@ -22,13 +22,13 @@ use Rattle.sectors.proofs.SectorsCosts.{program-within}
 use Rattle.sectors.proofs.rewrites.write_records.Goals as goal
 
 pub loop-i-init : goal.loop-i-init
-loop-i-init c = (c.under-start.ensures, omega arith, refl, omega arith, λ cut. (cut, refl))
+loop-i-init c = (c.under-start.ensures, refl, omega arith, λ cut. (cut, refl))
 
-pub shape_of-image-then-not-is_done : goal.shape_of-image-then-not-is_done
-shape_of-image-then-not-is_done c = c.program-s.auto.image ∙ c.loop-i.invariant.2
+pub shape_of-image-then-not-is_ok : goal.shape_of-image-then-not-is_ok
+shape_of-image-then-not-is_ok c = c.program-s.auto.image ∙ c.loop-i.invariant.1
 
-pub returns-then-not-is_done : goal.returns-then-not-is_done
-returns-then-not-is_done c =
+pub returns-then-not-is_ok : goal.returns-then-not-is_ok
+returns-then-not-is_ok c =
     let records-of : List Raw = take c.args.count c.args.table in
     let records-long : length records-of ≡ c.args.count = length-take-le c.args.count c.args.table
     (omega (arith, c.requires.0, c.well_formed.1.1.1.0.1.0.1)) in
@@ -42,13 +42,13 @@ returns-then-not-is_done c =
     ∙ sealed_from a.seq r
     ∙ ap (slot_of a.seq) (sym (get_or-take a.count a.table c.loop-i.i nowhere (omega arith))) in
     rw bytes at (c.program-s.ensures now) in
-    let answer-is : (now : Bool) → is_done (turn now).answer ≡ c.is_done.result =
-    λ now. sym (ap (λ (r : Step). is_done r.answer) (stepped now).shown) ∙ sym c.is_done.ensures in
+    let answer-is : (now : Bool) → is_done (turn now).answer ≡ c.is_ok.result =
+    λ now. sym (ap (λ (r : Step). is_done r.answer) (stepped now).shown) ∙ sym c.is_ok.ensures.value in
     λ cut.
-    let now = (c.loop-i.invariant.4 cut).0 in
-    let failed = answer-is now ∙ not-true c.is_done.result c.if-not-is_done.true-raw in
+    let now = (c.loop-i.invariant.3 cut).0 in
+    let failed = answer-is now ∙ not-true c.is_ok.result c.if-not-is_ok.true-raw in
     let stop = records_stop _ _ records-of c.loop-i.i (flash-of now) (omega (arith, records-long)) failed in
-    rw (sym (c.loop-i.invariant.4 cut).1 ∙ stop) (stepped now)
+    rw (sym (c.loop-i.invariant.3 cut).1 ∙ stop) (stepped now)
 
 pub loop-i-preserved : goal.loop-i-preserved
 loop-i-preserved c =
@@ -65,21 +65,20 @@ loop-i-preserved c =
     ∙ sealed_from a.seq r
     ∙ ap (slot_of a.seq) (sym (get_or-take a.count a.table c.loop-i.i nowhere (omega arith))) in
     rw bytes at (c.program-s.ensures now) in
-    let answer-is : (now : Bool) → is_done (turn now).answer ≡ c.is_done.result =
-    λ now. sym (ap (λ (r : Step). is_done r.answer) (stepped now).shown) ∙ sym c.is_done.ensures in
+    let answer-is : (now : Bool) → is_done (turn now).answer ≡ c.is_ok.result =
+    λ now. sym (ap (λ (r : Step). is_done r.answer) (stepped now).shown) ∙ sym c.is_ok.ensures.value in
     let cheap : c.program-s.result.used.programmed ≤ c.args.used.programmed + 16 * (c.loop-i.i + 1) = let a = c.args in
     let same = ap (λ (r : Step). r.used.programmed) (stepped true).shown in
     let most =
     (program-within a.sector (c.loop-i.i + 1) (slot_of a.seq (get_or records-of c.loop-i.i nowhere)) (flash-of true)
     ).programmed in
-    omega (arith, same, most, c.loop-i.invariant.3) in (
+    omega (arith, same, most, c.loop-i.invariant.2) in (
       c.loop-i.invariant.0,
-      omega arith,
-      c.program-s.auto.image ∙ c.loop-i.invariant.2,
+      c.program-s.auto.image ∙ c.loop-i.invariant.1,
       cheap,
       λ cut.
-          let now = (c.loop-i.invariant.4 cut).0 in
-          let done = answer-is now ∙ not-false c.is_done.result c.if-not-is_done.false-raw in (
+          let now = (c.loop-i.invariant.3 cut).0 in
+          let done = answer-is now ∙ not-false c.is_ok.result c.if-not-is_ok.false-raw in (
             (turn now).flash.cut,
             ap
                 (λ (o : Stepped).
@@ -87,12 +86,12 @@ loop-i-preserved c =
                 (drop (c.loop-i.i + 1) records-of) o.flash)
                 (sym (step_is (turn now) c.program-s.result c.program-s.new.image (stepped now)))
                 ∙ sym (records_on _ _ records-of c.loop-i.i (flash-of now) (omega (arith, records-long)) done)
-                ∙ (c.loop-i.invariant.4 cut).1,
+                ∙ (c.loop-i.invariant.3 cut).1,
           ),
     )
 
 pub shape_of-image : goal.shape_of-image
-shape_of-image c = c.loop-i.invariant.2
+shape_of-image c = c.loop-i.invariant.1
 
 pub returns : goal.returns
 returns c =
@@ -101,6 +100,6 @@ returns c =
     (omega (arith, c.requires.0, c.well_formed.1.1.1.0.1.0.1)) in
     let flash-of : Bool → Flash = λ now. flash_with c.loop-i.image c.loop-i.u now in
     λ cut.
-    let now = (c.loop-i.invariant.4 cut).0 in
+    let now = (c.loop-i.invariant.3 cut).0 in
     let end = records_end _ _ records-of c.loop-i.i (flash-of now) (omega (arith, records-long)) in
-    rw (sym (c.loop-i.invariant.4 cut).1 ∙ end) (record { shown = refl; left = refl })
+    rw (sym (c.loop-i.invariant.3 cut).1 ∙ end) (record { shown = refl; left = refl })

@@ -15,19 +15,19 @@ use Rattle.sectors.proofs.SectorsTurns.{wiped, filled, sector_unerased, sector_u
 use Rattle.sectors.proofs.SectorsCosts.{erase-within, records_within}
 use Rattle.sectors.proofs.rewrites.write_sector.Goals as goal
 
-pub returns-then-not-is_done : goal.returns-then-not-is_done
-returns-then-not-is_done c =
+pub returns-then-not-is_ok : goal.returns-then-not-is_ok
+returns-then-not-is_ok c =
     let first-flash : Bool → Flash = λ cut. flash_with c.args.image.now c.args.used cut in
     let records-of : List Raw = take c.args.count c.args.table in
     let erasing : Bool → Stepped = λ cut. erase c.args.sector (first-flash cut) in
     let erased-is : (cut : Bool) → erasing cut
     ≡ record { answer = c.erase-e.result.answer; flash = flash_with c.erase-e.new.image c.erase-e.result.used (erasing cut).flash.cut } = λ cut.
     step_is (erasing cut) c.erase-e.result c.erase-e.new.image (c.erase-e.ensures cut) in
-    let erase-answer : (cut : Bool) → is_done (erasing cut).answer ≡ c.is_done.result =
-    λ cut. ap (λ (o : Stepped). is_done o.answer) (erased-is cut) ∙ sym c.is_done.ensures in
+    let erase-answer : (cut : Bool) → is_done (erasing cut).answer ≡ c.is_ok.result =
+    λ cut. ap (λ (o : Stepped). is_done o.answer) (erased-is cut) ∙ sym c.is_ok.ensures.value in
     λ cut.
     let a = c.args in
-    let failed = erase-answer cut ∙ not-true c.is_done.result c.if-not-is_done.true-raw in
+    let failed = erase-answer cut ∙ not-true c.is_ok.result c.if-not-is_ok.true-raw in
     rw (sector_unerased a.sector a.seq records-of (first-flash cut) failed) (c.erase-e.ensures cut)
 
 pub write_records-w-requires : goal.write_records-w-requires
@@ -41,8 +41,8 @@ write_records-w-requires c =
     omega (arith, w, ap (λ (o : Stepped). o.flash.programmed) (erased-is true)) in
     (c.requires.0, rw c.erase-e.auto.image c.requires.1, omega (arith, erase-cheap, c.requires.2))
 
-pub returns-then-not-is_done-2 : goal.returns-then-not-is_done-2
-returns-then-not-is_done-2 c =
+pub returns-then-not-is_ok-2 : goal.returns-then-not-is_ok-2
+returns-then-not-is_ok-2 c =
     let first-flash : Bool → Flash = λ cut. flash_with c.args.image.now c.args.used cut in
     let records-of : List Raw = take c.args.count c.args.table in
     let erasing : Bool → Stepped = λ cut. erase c.args.sector (first-flash cut) in
@@ -58,14 +58,14 @@ returns-then-not-is_done-2 c =
       flash = flash_with c.write_records-w.new.image c.write_records-w.result.used
           (filling cut).flash.cut;
     } = λ cut. step_is (filling cut) c.write_records-w.result c.write_records-w.new.image (filled-shown cut) in
-    let erase-answer : (cut : Bool) → is_done (erasing cut).answer ≡ c.is_done.result =
-    λ cut. ap (λ (o : Stepped). is_done o.answer) (erased-is cut) ∙ sym c.is_done.ensures in
-    let fill-answer : (cut : Bool) → is_done (filling cut).answer ≡ c.is_done-2.result =
-    λ cut. ap (λ (o : Stepped). is_done o.answer) (filled_is cut) ∙ sym c.is_done-2.ensures in
-    let erase-done : (cut : Bool) → is_done (erasing cut).answer ≡ true = λ cut. erase-answer cut ∙ not-false c.is_done.result c.if-not-is_done.false-raw in
+    let erase-answer : (cut : Bool) → is_done (erasing cut).answer ≡ c.is_ok.result =
+    λ cut. ap (λ (o : Stepped). is_done o.answer) (erased-is cut) ∙ sym c.is_ok.ensures.value in
+    let fill-answer : (cut : Bool) → is_done (filling cut).answer ≡ c.is_ok-2.result =
+    λ cut. ap (λ (o : Stepped). is_done o.answer) (filled_is cut) ∙ sym c.is_ok-2.ensures.value in
+    let erase-done : (cut : Bool) → is_done (erasing cut).answer ≡ true = λ cut. erase-answer cut ∙ not-false c.is_ok.result c.if-not-is_ok.false-raw in
     λ cut.
     let a = c.args in
-    let failed = fill-answer cut ∙ not-true c.is_done-2.result c.if-not-is_done-2.true-raw in
+    let failed = fill-answer cut ∙ not-true c.is_ok-2.result c.if-not-is_ok-2.true-raw in
     rw (sector_unfilled a.sector a.seq records-of (first-flash cut) (erase-done cut) failed) (filled-shown cut)
 
 pub program-requires : goal.program-requires
@@ -115,14 +115,14 @@ returns c =
       flash = flash_with c.write_records-w.new.image c.write_records-w.result.used
           (filling cut).flash.cut;
     } = λ cut. step_is (filling cut) c.write_records-w.result c.write_records-w.new.image (filled-shown cut) in
-    let erase-answer : (cut : Bool) → is_done (erasing cut).answer ≡ c.is_done.result =
-    λ cut. ap (λ (o : Stepped). is_done o.answer) (erased-is cut) ∙ sym c.is_done.ensures in
-    let fill-answer : (cut : Bool) → is_done (filling cut).answer ≡ c.is_done-2.result =
-    λ cut. ap (λ (o : Stepped). is_done o.answer) (filled_is cut) ∙ sym c.is_done-2.ensures in
-    let erase-done : (cut : Bool) → is_done (erasing cut).answer ≡ true = λ cut. erase-answer cut ∙ not-false c.is_done.result c.if-not-is_done.false-raw in
+    let erase-answer : (cut : Bool) → is_done (erasing cut).answer ≡ c.is_ok.result =
+    λ cut. ap (λ (o : Stepped). is_done o.answer) (erased-is cut) ∙ sym c.is_ok.ensures.value in
+    let fill-answer : (cut : Bool) → is_done (filling cut).answer ≡ c.is_ok-2.result =
+    λ cut. ap (λ (o : Stepped). is_done o.answer) (filled_is cut) ∙ sym c.is_ok-2.ensures.value in
+    let erase-done : (cut : Bool) → is_done (erasing cut).answer ≡ true = λ cut. erase-answer cut ∙ not-false c.is_ok.result c.if-not-is_ok.false-raw in
     λ cut.
     let a = c.args in
-    let done = fill-answer cut ∙ not-false c.is_done-2.result c.if-not-is_done-2.false-raw in
+    let done = fill-answer cut ∙ not-false c.is_ok-2.result c.if-not-is_ok-2.false-raw in
     let shown = c.program.ensures (filling cut).flash.cut in
     rw (
       sector-headed a.sector a.seq records-of (first-flash cut) (erase-done cut) done,
