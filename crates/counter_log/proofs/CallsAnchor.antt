@@ -1,6 +1,7 @@
 -- The first anchor: what its own format leaves is an empty log that fits, and the anchor is decided on that.
+use Rattle.std.specs.Prelude.{None, Result, Ok, Err, is_ok}
 use mathlib.Core.Path.{◌≡◌, refl, sym, ap, ◌∙◌}
-use mathlib.Core.Bool.{Bool, true, false, false≢true}
+use mathlib.Core.Bool.{Bool, true, false, ◌&&◌, false≢true}
 use mathlib.Core.Logic.{inl}
 use mathlib.Core.List.{List, []}
 use Prim.Native.Nat.{ℕ, ◌*◌, ◌≤◌, ◌<◌}
@@ -8,20 +9,18 @@ use native.Mathlib.Omega.{arith}
 use lib.ListN.{length}
 use Rattle.basics.specs.Choice.{pick}
 use Rattle.basics.specs.Answers.{is_done}
-use Rattle.basics.specs.declared.Answer.{Answer}
-use Rattle.basics.specs.declared.Answer.TheVariants.{NotFormatted, WriteError}
-use Rattle.basics.proofs.ChoiceLaws as both
+use Rattle.basics.specs.declared.Refusal.{Refusal}
+use Rattle.basics.specs.declared.Refusal.TheVariants.{NotFormatted, WriteError}
 use Rattle.ids.specs.declared.Anchor.{Anchor}
 use Rattle.ids.specs.Ids.{anchor_tag}
 use Rattle.codec.specs.declared.Raw.{Raw}
-use Rattle.codec.specs.Slots.{none}
 use Rattle.flash.specs.declared.Plan.{Plan}
 use Rattle.flash.specs.Image.{sectors_in}
 use Rattle.flash.specs.Run.{Flash}
 use Rattle.records.specs.declared.State.{State}
 use Rattle.records.specs.declared.State.TheVariants.{Unformatted, Failed, Active}
 use Rattle.records.specs.declared.Log.{Log}
-use Rattle.records.specs.Table.{holds}
+use Rattle.records.specs.Table.{holds, held_of}
 use Rattle.records.specs.Logs.{log_of, records_of}
 use Rattle.records.specs.Fitting.{log_fits, keys_fit}
 use Rattle.records.proofs.FittingLaws.{placed-state, log-fits}
@@ -30,7 +29,7 @@ use Rattle.sectors.proofs.CommitsDone.{Committed, committed}
 use Rattle.sectors.proofs.SectorsCosts.{commit-within}
 use Rattle.decisions.specs.Decisions.{when_active, anchor_decision}
 use Rattle.reads.specs.declared.Entry.{Entry}
-use Rattle.reads.specs.Entering.{held_of, room_for, entry_of}
+use Rattle.reads.specs.Entering.{room_for, entry_of}
 use Rattle.decisions.specs.Outcomes.{Outcome, flash_of, refused, entered}
 use Rattle.decisions.specs.Performing.{performed, formatted}
 use Rattle.decisions.proofs.OutcomesCalls.{entered-refused, entered_in}
@@ -45,12 +44,12 @@ module _ (n : ℕ) (log : Log) (f : Flash) where
   -- it writes headers only: sixteen bytes a sector
   pub format_cheap : n ≤ 16 → f.programmed ≡ 0 → f.erased ≡ 0 → (made.flash.programmed ≤ 16 * n) × (made.flash.erased ≤ 4096 * n)
   format_cheap few p e =
-      let w = commit-within n n n 0 [] WriteError log.state log.next_seq f in
+      let w = commit-within n n n 0 [] (Err WriteError) log.state log.next_seq f in
       (omega (arith, w.programmed), omega (arith, w.erased))
 
   module _ (some : 0 < n) (d : is_done made.answer ≡ true) where
     done : Committed n [] made
-    done = committed n n n 0 [] WriteError log.state log.next_seq f some refl d
+    done = committed n n n 0 [] (Err WriteError) log.state log.next_seq f some refl d
 
     pub format-log : (formatted [] n log f).log ≡ log_of made.state made.next []
     format-log = ap (λ (b : Bool). log_of made.state made.next (pick b [] [])) d
@@ -76,7 +75,7 @@ module _ (a : Anchor) (n : ℕ) (o : Outcome) where
   first-stopped e = ap (λ (b : Bool). pick b (anchor_call a n o.log o.flash) o) e
 
   pub first-decided : is_done o.answer ≡ true → records_of o.log ≡ []
-      → anchored_first a n o ≡ performed (when_active o.log.state (anchor_decision none true a)) n o.log o.flash
+      → anchored_first a n o ≡ performed (when_active o.log.state (anchor_decision None true a)) n o.log o.flash
   unfolding anchored_first held_of room_for holds
   first-decided e t =
       ap (λ (b : Bool). pick b (anchor_call a n o.log o.flash) o) e
@@ -92,7 +91,7 @@ pub not_first : (s : State) (a : Anchor) (n : ℕ) (log : Log) (f : Flash) → l
 unfolding performed
 not_first Unformatted a n log f e h = go (is_first a) refl
   where
-    go : (b : Bool) → is_first a ≡ b → pick b (anchored_first a n (formatted [] n log f)) (refused NotFormatted log f) ≡ anchor_call a n log f
+    go : (b : Bool) → is_first a ≡ b → pick b (anchored_first a n (formatted [] n log f)) (refused (Err NotFormatted) log f) ≡ anchor_call a n log f
     go true t = absurd (h t refl)
     go false t =
         sym
@@ -112,42 +111,39 @@ not_first (Active sector seq head) a n log f e h = refl
 
 pub first : (a : Anchor) (n : ℕ) (log : Log) (f : Flash) → is_first a ≡ true
     → anchored Unformatted a n log f ≡ anchored_first a n (formatted [] n log f)
-first a n log f e = ap (λ (b : Bool). pick b (anchored_first a n (formatted [] n log f)) (refused NotFormatted log f)) e
+first a n log f e = ap (λ (b : Bool). pick b (anchored_first a n (formatted [] n log f)) (refused (Err NotFormatted) log f)) e
 
 -- ---- the call, by whether it brings the first anchor
-pub opened : (answer : Answer) (s : State) (a : Anchor) → opens_log answer s a ≡ true → (s ≡ Unformatted) × (is_done answer ≡ true) × (is_first a ≡ true)
-opened answer Unformatted a e = (refl, both.first (is_done answer) (is_first a) e, both.second (is_done answer) (is_first a) e)
-opened answer Failed a e = absurd (false≢true e)
-opened answer (Active sector seq head) a e = absurd (false≢true e)
+pub opened : (s : State) (a : Anchor) → opens_log s a ≡ true → (s ≡ Unformatted) × (is_first a ≡ true)
+opened Unformatted a e = (refl, e)
+opened Failed a e = absurd (false≢true e)
+opened (Active sector seq head) a e = absurd (false≢true e)
 
-module _ (image : List ℕ) (log : Log) (plan : Plan) (a : Anchor) (e : Entry)
-    (is-entry : e ≡ entry_of (sectors_in (length image)) log true anchor_tag 0) where
+module _ (image : List ℕ) (log : Log) (plan : Plan) (a : Anchor) where
   abbrev call : ℕ → Log → Flash → Outcome
   call n l f = anchored l.state a n l f
 
   abbrev n : ℕ
   n = sectors_in (length image)
 
-  pub as_first : opens_log e.answer log.state a ≡ true
+  pub as_first : (e : Entry) → entry_of n log true anchor_tag 0 ≡ Ok e → opens_log log.state a ≡ true
       → put_anchor_of image log plan a ≡ anchored_first a n (formatted [] n log (flash_of image plan))
   unfolding put_anchor_of
-  as_first o =
-      let h = opened e.answer log.state a o in
-      entered_in image log plan true anchor_tag 0 e is-entry call h.1
+  as_first e is-entry o =
+      let h = opened log.state a o in
+      entered_in image log plan true anchor_tag 0 e is-entry call
       ∙ ap (λ (s : State). anchored s a n log (flash_of image plan)) h.0
-      ∙ first a n log (flash_of image plan) h.2
+      ∙ first a n log (flash_of image plan) h.1
 
-  pub as_call : opens_log e.answer log.state a ≡ false → put_anchor_of image log plan a ≡ entered image log plan true (anchor_call a)
+  pub as_call : (x : Result Entry Refusal) → entry_of n log true anchor_tag 0 ≡ x → (is_ok x && opens_log log.state a) ≡ false
+      → put_anchor_of image log plan a ≡ entered image log plan true (anchor_call a)
   unfolding put_anchor_of
-  as_call o = go (is_done e.answer) refl
-    where
-      go : (b : Bool) → is_done e.answer ≡ b → entered image log plan true call ≡ entered image log plan true (anchor_call a)
-      go true h =
-          let never : is_first a ≡ true → log.state ≡ Unformatted → ⊥ =
-          λ f u. false≢true (sym o ∙ ap (λ (s : State). opens_log e.answer s a) u ∙ both.both h f) in
-          entered_in image log plan true anchor_tag 0 e is-entry call h
-          ∙ not_first log.state a n log (flash_of image plan) refl never
-          ∙ sym (entered_in image log plan true anchor_tag 0 e is-entry (anchor_call a) h)
-      go false h =
-          entered-refused image log plan true anchor_tag 0 e is-entry call h
-          ∙ sym (entered-refused image log plan true anchor_tag 0 e is-entry (anchor_call a) h)
+  as_call (Ok e) is-entry o =
+      let never : is_first a ≡ true → log.state ≡ Unformatted → ⊥ =
+      λ f u. false≢true (sym o ∙ ap (λ (s : State). opens_log s a) u ∙ f) in
+      entered_in image log plan true anchor_tag 0 e is-entry call
+      ∙ not_first log.state a n log (flash_of image plan) refl never
+      ∙ sym (entered_in image log plan true anchor_tag 0 e is-entry (anchor_call a))
+  as_call (Err r) is-entry o =
+      entered-refused image log plan true anchor_tag 0 call r is-entry
+      ∙ sym (entered-refused image log plan true anchor_tag 0 (anchor_call a) r is-entry)

@@ -6,35 +6,19 @@ ghost use Rattle.decisions.specs.Performing.{formatted};
 ghost use Rattle.counter_log.specs.Calls.{anchored_first, put_anchor_of};
 ghost use Rattle.counter_log.specs.FirstAnchor.{opens_log, FitForFirst};
 
-use basics::Answer;
-use codec::{OptRaw, Raw};
 use decisions::Done;
 use flash::Plan;
 use ids::Anchor;
-use reads::Entry;
 use records::{Log, State};
 use sectors::Used;
 
-// Whether a call that was let in brings the first anchor: the log is Unformatted, head_seq and head_slot are 0.
-fn is_first(answer: Answer, state: State, new: Anchor) -> bool
-    ensures { result ≡ opens_log answer state new }
+// Whether an anchor is the first of its log: the log is Unformatted, head_seq and head_slot are 0.
+fn is_first(state: State, new: Anchor) -> bool
+    ensures { result ≡ opens_log state new }
 {
     match state {
-        State::Unformatted => {
-            if !basics::is_done(answer) {
-                return false;
-            }
-            if new.head_seq != 0 {
-                return false;
-            }
-            new.head_slot == 0
-        }
-        State::Failed => false,
-        State::Active {
-            sector: _,
-            seq: _,
-            head: _,
-        } => false,
+        State::Unformatted => new.head_seq == 0 && new.head_slot == 0,
+        State::Failed | State::Active { .. } => false,
     }
 }
 
@@ -46,30 +30,16 @@ fn first_anchor(image: &mut [u8], log: Log, used: Used, sectors: usize, new: Anc
         image.new }
 {
     let f = decisions::format_with(image, log, used, sectors, records::empty_table(), 0);
-    let answer = f.answer;
-    if !basics::is_done(answer) {
+    if f.answer.is_err() {
         return f;
     }
-    let z = Raw::none();
-    let e = Entry {
-        answer: Answer::Done,
-        at: 0,
-        room: true,
-        held: OptRaw {
-            some: false,
-            raw: z,
-        },
-    };
-    let held = e.held;
-    let plan = f.plan;
     let left = Used {
-        plan: plan,
+        plan: f.plan,
         programmed: f.programmed,
         erased: f.erased,
     };
-    let empty = f.log;
-    let d = decisions::anchor_decision(held, true, new);
-    decisions::perform(image, empty, left, sectors, e, d)
+    let d = decisions::anchor_decision(None, true, new);
+    decisions::perform(image, f.log, left, sectors, Ok((0, d)))
 }
 
 // Writes the anchor. An equal one is 0; the same format_gen with a smaller head_seq is 9; a head_seq above 2^48 - 1 is 6.
@@ -77,14 +47,11 @@ pub fn put_anchor(image: &mut [u8], log: Log, plan: Plan, new: Anchor) -> Done
     ensures { ShowsDone (put_anchor_of image.old log plan new) result image.new }
 {
     let n = flash::sectors(image.len());
-    let e = reads::enter(log, n, true, ids::ANCHOR_TAG, 0);
-    let answer = e.answer;
-    let state = log.state;
     let used = decisions::unused(plan);
-    if is_first(answer, state, new) {
+    let entry = reads::enter(log, n, true, ids::ANCHOR_TAG, 0);
+    if entry.is_ok() && is_first(log.state, new) {
         return first_anchor(image, log, used, n, new);
     }
-    let held = e.held;
-    let d = decisions::anchor_decision(held, e.room, new);
-    decisions::perform(image, log, used, n, e, d)
+    let decided = entry.map(|e| (e.at, decisions::anchor_decision(e.held, e.room, new)));
+    decisions::perform(image, log, used, n, decided)
 }

@@ -3,7 +3,7 @@
 ghost use Rattle.decisions.specs.Outcomes.{ShowsDone};
 ghost use Rattle.counter_log.specs.Calls.{format_of};
 
-use basics::Answer;
+use basics::Refusal;
 use decisions::{Done, SEEDS, Seed};
 use flash::Plan;
 use records::{Log, State};
@@ -13,30 +13,19 @@ pub fn format(image: &mut [u8], log: Log, plan: Plan, seeds: [Seed; SEEDS], coun
     ensures { ShowsDone (format_of image.old log plan seeds count) result image.new }
 {
     let n = flash::sectors(image.len());
-    let e = reads::enter(
-        log,
-        n,
-        decisions::seeds_known(seeds, count),
-        ids::COUNTER_TAG,
-        0,
-    );
-    let answer = e.answer;
-    let state = log.state;
     let used = decisions::unused(plan);
-    if !basics::is_done(answer) {
-        return decisions::answered(answer, 0, log, used);
+    let known = decisions::seeds_known(seeds, count);
+    if let Err(refusal) = reads::enter(log, n, known, ids::COUNTER_TAG, 0) {
+        return decisions::answered(Err(refusal), log, used);
     }
-    match state {
+    match log.state {
         State::Unformatted => {
             let t = decisions::seed_table(seeds, count);
             let table = t.table;
             decisions::format_with(image, log, used, n, table, t.count)
         }
-        State::Failed => decisions::answered(Answer::WriteError, 0, log, used),
-        State::Active {
-            sector: _,
-            seq: _,
-            head: _,
-        } => decisions::answered(Answer::WriteError, 0, log, used),
+        State::Failed | State::Active { .. } => {
+            decisions::answered(Err(Refusal::WriteError), log, used)
+        }
     }
 }

@@ -12,16 +12,13 @@ pub fn put(image: &mut [u8], log: Log, plan: Plan, credential: u8, new: CounterS
     ensures { ShowsDone (put_of image.old log plan credential new) result image.new }
 {
     let n = flash::sectors(image.len());
-    let e = reads::enter(
-        log,
-        n,
-        ids::is_credential(credential),
-        ids::COUNTER_TAG,
-        credential,
-    );
-    let held = e.held;
-    let d = decisions::put_decision(held, e.room, credential, new);
-    decisions::perform(image, log, decisions::unused(plan), n, e, d)
+    let known = ids::is_credential(credential);
+    let entry = reads::enter(log, n, known, ids::COUNTER_TAG, credential);
+    let decided = entry.map(|e| (
+        e.at,
+        decisions::put_decision(e.held, e.room, credential, new),
+    ));
+    decisions::perform(image, log, decisions::unused(plan), n, decided)
 }
 
 // Writes a device value. A smaller monotonic value is 9; an equal value is 0 without a write.
@@ -29,8 +26,7 @@ pub fn put_value(image: &mut [u8], log: Log, plan: Plan, id: u8, new: u64) -> Do
     ensures { ShowsDone (put_value_of image.old log plan id new) result image.new }
 {
     let n = flash::sectors(image.len());
-    let e = reads::enter(log, n, ids::is_value(id), ids::VALUE_TAG, id);
-    let held = e.held;
-    let d = decisions::value_decision(held, e.room, id, new);
-    decisions::perform(image, log, decisions::unused(plan), n, e, d)
+    let entry = reads::enter(log, n, ids::is_value(id), ids::VALUE_TAG, id);
+    let decided = entry.map(|e| (e.at, decisions::value_decision(e.held, e.room, id, new)));
+    decisions::perform(image, log, decisions::unused(plan), n, decided)
 }

@@ -1,8 +1,7 @@
 -- What a call on an image comes to, and how the answer struct and the image show it.
 use Rattle.std.specs.Prelude.{◌≡◌, Bool, false, List, ℕ, length}
 use Rattle.basics.specs.Choice.{pick}
-use Rattle.basics.specs.Answers.{is_done}
-use Rattle.basics.specs.declared.Answer.{Answer}
+use Rattle.basics.specs.Answers.{is_done, beside, Answer}
 use Rattle.flash.specs.declared.Plan.{Plan}
 use Rattle.flash.specs.Image.{sectors_in}
 use Rattle.flash.specs.Run.{Flash}
@@ -19,8 +18,7 @@ pub record Outcome : Type 0 where
 abbrev pub done_of : Outcome → Done
 done_of o =
     record {
-      answer = o.answer;
-      value = o.value;
+      answer = beside o.answer o.value;
       programmed = o.flash.programmed;
       erased = o.flash.erased;
       plan = o.flash.plan;

@@ -1,8 +1,8 @@
 -- The steps that perform a decision: what each asks, and what it hands back.
-use Rattle.std.specs.Prelude.{◌≡◌, true, List, ℕ, ◌+◌, ◌*◌, ◌≤◌, ◌<◌, length, take}
+use Rattle.std.specs.Prelude.{◌≡◌, true, List, ℕ, ◌+◌, ◌*◌, ◌≤◌, ◌<◌, length, take, Result, Ok, Err, is_ok}
 use Rattle.basics.specs.Choice.{pick}
-use Rattle.basics.specs.Answers.{is_done}
-use Rattle.basics.specs.declared.Answer.{Answer}
+use Rattle.basics.specs.Answers.{is_done, beside}
+use Rattle.basics.specs.declared.Refusal.{Refusal}
 use Rattle.codec.specs.declared.Raw.{Raw}
 use Rattle.flash.specs.Image.{sector_size, sectors_most}
 use Rattle.flash.specs.Run.{Flash}
@@ -14,23 +14,20 @@ use Rattle.sectors.specs.declared.Used.{Used}
 use Rattle.sectors.specs.declared.Wrote.{Wrote}
 use Rattle.sectors.specs.Asks.{SlotsMore, SectorsMore}
 use Rattle.decisions.specs.declared.Decision.{Decision}
-use Rattle.decisions.specs.Decisions.{when_active}
-use Rattle.reads.specs.declared.Entry.{Entry}
+use Rattle.decisions.specs.Decisions.{writes_record, record_in, when_active}
 use Rattle.decisions.specs.declared.outcomes.Done.{Done}
 use Rattle.decisions.specs.Outcomes.{Outcome, refused}
 use Rattle.decisions.specs.Performing.{performed}
 
 -- nothing is written
-abbrev pub answered_of : Answer → ℕ → Log → Used → Done
-answered_of answer value log used =
-    record { answer = answer; value = value; programmed = used.programmed; erased = used.erased; plan = used.plan; log = log }
+abbrev pub answered_of : Result ℕ Refusal → Log → Used → Done
+answered_of answer log used = record { answer = answer; programmed = used.programmed; erased = used.erased; plan = used.plan; log = log }
 
 -- what was written becomes the log: the new table where it is done, else the old
 unfoldable pub finished_of : Wrote → ℕ → Log → List Raw → ℕ → Done
 finished_of w value log table count =
     record {
-      answer = w.answer;
-      value = pick (is_done w.answer) value 0;
+      answer = beside w.answer value;
       programmed = w.used.programmed;
       erased = w.used.erased;
       plan = w.used.plan;
@@ -61,12 +58,12 @@ pub record Placed (log : Log) (at : ℕ) (r : Raw) : Type 0 where
   pub place : at ≡ place_of r.tag r.id (records_of log)
   pub free : at < limit
 
--- a call that was let in is ready for its decision
-pub record Ready (len n : ℕ) (log : Log) (used : Used) (e : Entry) (d : Decision) : Type 0 where
-  pub room : is_done e.answer ≡ true → FitToWrite len n log used
-  pub placed : is_done e.answer ≡ true → d.write ≡ true → Placed log e.at d.rec
+-- a call is ready for what was decided; nothing is asked where it was refused. Beside a decision stands the place of its key
+pub record Ready (len n : ℕ) (log : Log) (used : Used) (decided : Result (ℕ × Decision) Refusal) : Type 0 where
+  pub room : is_ok decided ≡ true → FitToWrite len n log used
+  pub placed : (at : ℕ) (d : Decision) → decided ≡ Ok (at, d) → writes_record d ≡ true → Placed log at (record_in d)
 
--- what comes of a call that found this and decided that
-abbrev pub performed_on : Entry → Decision → ℕ → Log → Flash → Outcome
-performed_on e d n log f =
-    pick (is_done e.answer) (performed (when_active log.state d) n log f) (refused e.answer log f)
+-- what comes of what was decided in a log of any state, and of a refusal
+abbrev pub performed_on : Result (ℕ × Decision) Refusal → ℕ → Log → Flash → Outcome
+performed_on (Ok (at, d)) n log f = performed (when_active log.state d) n log f
+performed_on (Err r) n log f = refused (Err r) log f

@@ -9,9 +9,8 @@ ghost use Rattle.decisions.specs.Ready.{FitToWrite, Placed, Ready, performed_on}
 
 use crate::outcomes::Done;
 use crate::{Decision, outcomes};
-use basics::Answer;
+use basics::Refusal;
 use codec::Raw;
-use reads::Entry;
 use records::{Log, State};
 use sectors::Used;
 
@@ -51,44 +50,30 @@ fn write_record(
     outcomes::finish(w, value, log, table, count)
 }
 
-// Does what was decided, where the call was let in and the log is Active; 4 or 5 where it isn't.
+// Does what was decided, where the call was let in and the log is Active; 4 or 5 where it isn't. Beside a decision stands the place of its key.
 pub fn perform(
     image: &mut [u8],
     log: Log,
     used: Used,
     sectors: usize,
-    entry: Entry,
-    decision: Decision,
+    decided: Result<(usize, Decision), Refusal>,
 ) -> Done
-    requires { Ready (length image.old) sectors log used entry decision }
-    ensures { (cut : Bool) → ShowsDone (performed_on entry decision sectors log (flash_with image.old used cut)) result image.new }
+    requires { Ready (length image.old) sectors log used decided }
+    ensures { (cut : Bool) → ShowsDone (performed_on decided sectors log (flash_with image.old used cut)) result image.new }
 {
-    let answer = entry.answer;
-    if !basics::is_done(answer) {
-        return outcomes::answered(answer, 0, log, used);
-    }
-    let state = log.state;
-    match state {
-        State::Unformatted => outcomes::answered(Answer::NotFormatted, 0, log, used),
-        State::Failed => outcomes::answered(Answer::ReadError, 0, log, used),
-        State::Active { sector, seq, head } => {
-            let given = decision.answer;
-            if !decision.write {
-                return outcomes::answered(given, decision.value, log, used);
-            }
-            let rec = decision.rec;
-            write_record(
-                image,
-                log,
-                used,
-                sectors,
-                sector,
-                seq,
-                head,
-                entry.at,
-                rec,
-                decision.value,
-            )
-        }
+    let (at, decision) = match decided {
+        Err(refusal) => return outcomes::answered(Err(refusal), log, used),
+        Ok(x) => x,
+    };
+    match log.state {
+        State::Unformatted => outcomes::answered(Err(Refusal::NotFormatted), log, used),
+        State::Failed => outcomes::answered(Err(Refusal::ReadError), log, used),
+        State::Active { sector, seq, head } => match decision {
+            Decision::Refuse(refusal) => outcomes::answered(Err(refusal), log, used),
+            Decision::Give(value) => outcomes::answered(Ok(value), log, used),
+            Decision::Write { rec, value } => write_record(
+                image, log, used, sectors, sector, seq, head, at, rec, value,
+            ),
+        },
     }
 }

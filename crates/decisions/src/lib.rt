@@ -18,45 +18,25 @@ pub use seeds::{SEEDS, Seed, Seeded, seed_table, seeds_known};
 
 // What stands here uses:
 ghost use Rattle.std.specs.Prelude.{◌≡◌};
-ghost use Rattle.decisions.specs.Decisions.{unwritten, write};
+ghost use Rattle.decisions.specs.Decisions.{write};
 
-use basics::Answer;
+use basics::Refusal;
 use codec::Raw;
 
-// What a call has decided: an answer and a value, and where `write` is set, the record to append first.
-#[derive(Clone, Copy)]
-pub struct Decision {
-    pub answer: Answer,
-    pub write: bool,
-    pub value: u64,
-    pub rec: Raw,
-}
-
-// An answer and a value, and nothing to write.
-pub fn answers(answer: Answer, value: u64) -> Decision
-    ensures { result ≡ unwritten answer value }
-{
-    let z = Raw::none();
-    Decision {
-        answer: answer,
-        write: false,
-        value: value,
-        rec: z,
-    }
+// What a call has decided: to refuse, to answer this value without a write, or to append this record first.
+#[derive(Clone, Copy, Debug, PartialEq, Eq)]
+pub enum Decision {
+    Refuse(Refusal),
+    Give(u64),
+    Write { rec: Raw, value: u64 },
 }
 
 // A record to write, and this value to answer; 8 where there is no room for its key.
 pub fn writes(room: bool, rec: Raw, reply: u64) -> Decision
     ensures { result ≡ write room rec reply }
 {
-    let is_full = !room;
-    if is_full {
-        return answers(Answer::KeystoreFull, 0);
+    if !room {
+        return Decision::Refuse(Refusal::KeystoreFull);
     }
-    Decision {
-        answer: Answer::Done,
-        write: true,
-        value: reply,
-        rec: rec,
-    }
+    Decision::Write { rec, value: reply }
 }

@@ -3,17 +3,16 @@
 ghost use Rattle.std.specs.Prelude.{◌≡◌};
 ghost use Rattle.decisions.specs.Ready.{answered_of, finished_of};
 
-use basics::Answer;
+use basics::Refusal;
 use codec::Raw;
 use flash::Plan;
 use records::{LIMIT, Log};
 use sectors::{Used, Wrote};
 
-// What a call on an image answers, and the log and plan that it hands back.
+// What a call on an image answers, with the value asked for or a refusal, and the log and plan that it hands back.
 #[derive(Clone, Copy)]
 pub struct Done {
-    pub answer: Answer,
-    pub value: u64,
+    pub answer: Result<u64, Refusal>,
     pub programmed: usize,
     pub erased: usize,
     pub plan: Plan,
@@ -25,24 +24,23 @@ pub fn unused(plan: Plan) -> Used
     ensures { result ≡ record { plan = plan; programmed = 0; erased = 0 } }
 {
     Used {
-        plan: plan,
+        plan,
         programmed: 0,
         erased: 0,
     }
 }
 
 // An answer without a write: the log is handed back as it came.
-pub fn answered(answer: Answer, value: u64, log: Log, used: Used) -> Done
-    ensures { result ≡ answered_of answer value log used }
+pub fn answered(answer: Result<u64, Refusal>, log: Log, used: Used) -> Done
+    ensures { result ≡ answered_of answer log used }
 {
     let plan = used.plan;
     Done {
-        answer: answer,
-        value: value,
+        answer,
         programmed: used.programmed,
         erased: used.erased,
-        plan: plan,
-        log: log,
+        plan,
+        log,
     }
 }
 
@@ -50,24 +48,21 @@ pub fn answered(answer: Answer, value: u64, log: Log, used: Used) -> Done
 pub fn finish(w: Wrote, value: u64, log: Log, table: [Raw; LIMIT], count: usize) -> Done
     ensures { result ≡ finished_of w value log table count }
 {
-    let answer = w.answer;
-    let state = w.state;
-    let used = w.used;
-    if basics::is_done(answer) {
-        let new = Log {
-            state: state,
-            next_seq: w.next_seq,
-            count: count,
-            table: table,
-        };
-        return answered(answer, value, new, used);
-    }
-    let kept = log.table;
-    let old = Log {
-        state: state,
+    let left = Log {
+        state: w.state,
         next_seq: w.next_seq,
-        count: log.count,
-        table: kept,
+        ..log
     };
-    answered(answer, 0, old, used)
+    match w.answer {
+        Ok(()) => answered(
+            Ok(value),
+            Log {
+                count,
+                table,
+                ..left
+            },
+            w.used,
+        ),
+        Err(refusal) => answered(Err(refusal), left, w.used),
+    }
 }

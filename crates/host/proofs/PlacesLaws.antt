@@ -1,4 +1,6 @@
 -- Laws of the places that an image has, and of a step in one.
+use Rattle.std.specs.Prelude.{Err}
+use Rattle.basics.specs.Answers.{all_done, is_done, Answer}
 use mathlib.Core.Path.{◌≡◌, refl, sym, ◌∙◌, ap, subst}
 use mathlib.Core.Bool.{Bool, true, false, true≢false, ◌&&◌}
 use mathlib.Core.List.{List}
@@ -7,9 +9,7 @@ use lib.Dec.{eqb, ltb}
 use lib.ListN.{length}
 use borrow.Author.Tests.{ltb-true}
 use Rattle.basics.specs.Choice.{pick}
-use Rattle.basics.specs.Answers.{is_done}
-use Rattle.basics.specs.declared.Answer.{Answer}
-use Rattle.basics.specs.declared.Answer.TheVariants.{Done, BadImage}
+use Rattle.basics.specs.declared.Refusal.TheVariants.{BadImage}
 use Rattle.basics.proofs.ChoiceLaws.{first, second, by_test}
 use Rattle.flash.specs.declared.Plan.{Plan}
 use Rattle.flash.specs.Image.{sectors_in}
@@ -25,9 +25,9 @@ pub admitted : (n sector slot : ℕ) (outside : Answer) → is_done outside ≡ 
     → (sector < n) × (slot < 256)
 unfolding place_answer
 admitted n sector slot outside out =
-    by_test (λ (a : Answer). is_done a ≡ true → (sector < n) × (slot < 256)) (eqb n 0) BadImage (pick (ltb sector n && ltb slot 256) Done outside)
+    by_test (λ (a : Answer). is_done a ≡ true → (sector < n) × (slot < 256)) (eqb n 0) (Err BadImage) (pick (ltb sector n && ltb slot 256) all_done outside)
     (λ _ e. absurd (true≢false (sym e)))
-    (λ _. by_test (λ (a : Answer). is_done a ≡ true → (sector < n) × (slot < 256)) (ltb sector n && ltb slot 256) Done outside
+    (λ _. by_test (λ (a : Answer). is_done a ≡ true → (sector < n) × (slot < 256)) (ltb sector n && ltb slot 256) all_done outside
     (λ h _. (ltb-true sector n (first (ltb sector n) (ltb slot 256) h), ltb-true slot 256 (second (ltb sector n) (ltb slot 256) h)))
     (λ _ e. absurd (true≢false (sym e ∙ out))))
 

@@ -1,6 +1,6 @@
 -- What can be asked of the flash, and what comes of it: each kind is the call of that name, or one step alone.
+use Rattle.basics.specs.Answers.{all_done}
 use Rattle.std.specs.Prelude.{List, replicate, ℕ}
-use Rattle.basics.specs.declared.Answer.TheVariants.{Done}
 use Rattle.codec.specs.Slots.{slot_size}
 use Rattle.ids.specs.Counters.{fresh_of}
 use Rattle.flash.specs.declared.Plan.{Plan}
@@ -34,7 +34,7 @@ abbrev pub step_outcome : Log → Stepped → Outcome
 step_outcome log s = refused s.answer log s.flash
 
 abbrev pub asked_by : Kind → List Seed → List ℕ → List ℕ → Log → Plan → Outcome
-asked_by Nothing seeds bytes image log plan = refused Done log (flash_of image plan)
+asked_by Nothing seeds bytes image log plan = refused all_done log (flash_of image plan)
 asked_by (Put credential new) seeds bytes image log plan = put_of image log plan credential new
 asked_by (PutValue id new) seeds bytes image log plan = put_value_of image log plan id new
 asked_by (PutAnchor new) seeds bytes image log plan = put_anchor_of image log plan new

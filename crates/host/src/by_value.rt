@@ -1,11 +1,11 @@
 // A request met on a plan by value: each kind is a call of counter_log or tries, or a step of this crate's own.
 ghost use Rattle.std.specs.Prelude.{◌≡◌};
+ghost use Rattle.basics.specs.Answers.{beside};
 ghost use Rattle.decisions.specs.Outcomes.{ShowsDone};
 ghost use Rattle.decisions.specs.Ready.{answered_of};
 ghost use Rattle.host.specs.Requests.{requested};
 
 use crate::{Kind, Request, places};
-use basics::Answer;
 use decisions::Done;
 use flash::Plan;
 use records::Log;
@@ -13,11 +13,9 @@ use sectors::Step;
 
 // A step alone, as an answer: the log is handed back as it came.
 fn stepped(step: Step, log: Log) -> Done
-    ensures { result ≡ answered_of step.answer 0 log step.used }
+    ensures { result ≡ answered_of (beside step.answer 0) log step.used }
 {
-    let answer = step.answer;
-    let used = step.used;
-    decisions::answered(answer, 0, log, used)
+    decisions::answered(step.answer.and(Ok(0)), log, step.used)
 }
 
 // What is asked, done.
@@ -28,7 +26,7 @@ pub fn meet(image: &mut [u8], log: Log, plan: Plan, request: Request) -> Done
     let seeds = request.seeds;
     let bytes = request.bytes;
     match kind {
-        Kind::Nothing => decisions::answered(Answer::Done, 0, log, decisions::unused(plan)),
+        Kind::Nothing => decisions::answered(Ok(0), log, decisions::unused(plan)),
         Kind::Put { credential, new } => counter_log::put(image, log, plan, credential, new),
         Kind::PutValue { id, new } => counter_log::put_value(image, log, plan, id, new),
         Kind::PutAnchor(new) => counter_log::put_anchor(image, log, plan, new),

@@ -23,8 +23,7 @@ use records::Log;
 fn plan_after(done: Done) -> Plan
     ensures { result ≡ done.plan }
 {
-    let plan = done.plan;
-    plan
+    done.plan
 }
 
 // A request on a lent plan.

@@ -37,7 +37,7 @@ fn no_seed() -> Seed
     let state = CounterState::fresh(0);
     Seed {
         credential: 0,
-        state: state,
+        state,
     }
 }
 
@@ -48,7 +48,7 @@ impl Request {
     {
         let z = no_seed();
         Request {
-            kind: kind,
+            kind,
             seeds: [z; SEEDS],
             bytes: [0; SLOT],
         }
@@ -59,8 +59,8 @@ impl Request {
         ensures { result ≡ format_with seeds count }
     {
         Request {
-            kind: Kind::Format { count: count },
-            seeds: seeds,
+            kind: Kind::Format { count },
+            seeds,
             bytes: [0; SLOT],
         }
     }
@@ -71,12 +71,9 @@ impl Request {
     {
         let z = no_seed();
         Request {
-            kind: Kind::Program {
-                sector: sector,
-                slot: slot,
-            },
+            kind: Kind::Program { sector, slot },
             seeds: [z; SEEDS],
-            bytes: bytes,
+            bytes,
         }
     }
 }

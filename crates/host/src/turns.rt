@@ -18,18 +18,14 @@ pub struct InTurn {
 fn both(first: Done, second: Done) -> InTurn
     ensures { result ≡ record { first = first; second = second } }
 {
-    InTurn {
-        first: first,
-        second: second,
-    }
+    InTurn { first, second }
 }
 
 // The log that a call hands back.
 fn log_after(done: Done) -> Log
     ensures { result ≡ done.log }
 {
-    let log = done.log;
-    log
+    done.log
 }
 
 // A request, and another on the log, the image and the plan as the first left them.
@@ -54,10 +50,10 @@ pub fn attempt(
 ) -> InTurn
     ensures { AttemptOf credential current seen image.old log plan result image.new }
 {
-    let number = Request::of(Kind::AdvanceLamport { seen: seen });
+    let number = Request::of(Kind::AdvanceLamport { seen });
     let spend = Request::of(Kind::Spend {
-        credential: credential,
-        current: current,
+        credential,
+        current,
     });
     in_turn(image, log, plan, number, spend)
 }

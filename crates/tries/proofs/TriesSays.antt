@@ -1,19 +1,19 @@
 -- What `remaining` answers, in the paper's numbers: what get says, with the counter's tries for the counter.
 use mathlib.Core.Path.{◌≡◌, refl, ap, ◌∙◌}
 use Prim.Native.Nat.{ℕ}
-use Rattle.basics.specs.Says.{says_map}
+use Rattle.std.specs.Prelude.{Option, Result, Ok, Err}
+use Rattle.basics.specs.declared.Refusal.{Refusal}
+use Rattle.basics.specs.Says.{says_map, option_says}
+use Rattle.ids.specs.declared.CounterState.{CounterState}
 use Rattle.ids.specs.Counters.{remaining_of}
 use Rattle.records.specs.declared.Log.{Log}
-use Rattle.reads.specs.declared.Counter.{Counter}
-use Rattle.reads.specs.declared.Counter.TheVariants.{Refused, Nothing, Held}
-use Rattle.reads.specs.Reads.{get_of, counter_says}
+use Rattle.reads.specs.Reads.{get_of}
 use Rattle.reads.proofs.ReadsSays.{get-says}
-use Rattle.tries.specs.Tries.{tries_left_by, tries_left_of, tries_left_says_of, tries_left_says}
+use Rattle.tries.specs.Tries.{tries_left_by, tries_left_of, tries_left_says_of}
 
-pub tries-left_says : (log : Log) (credential : ℕ) → tries_left_says (tries_left_of log credential) ≡ tries_left_says_of log credential
+pub tries-left_says : (log : Log) (credential : ℕ) → option_says (tries_left_of log credential) ≡ tries_left_says_of log credential
 tries-left_says log credential = by-counter (get_of log credential) ∙ ap (says_map remaining_of) (get-says log credential)
   where
-    by-counter : (x : Counter) → tries_left_says (tries_left_by x) ≡ says_map remaining_of (counter_says x)
-    by-counter (Refused a) = refl
-    by-counter Nothing = refl
-    by-counter (Held s) = refl
+    by-counter : (x : Result (Option CounterState) Refusal) → option_says (tries_left_by x) ≡ says_map remaining_of (option_says x)
+    by-counter (Ok held) = refl
+    by-counter (Err r) = refl

@@ -3,8 +3,8 @@ ghost use Rattle.std.specs.Prelude.{◌≡◌};
 ghost use Rattle.decisions.specs.Outcomes.{ShowsDone};
 ghost use Rattle.tries.specs.Tries.{seen_of, advance_from, advance_of};
 
-use basics::Answer;
-use codec::OptRaw;
+use basics::Refusal;
+use codec::Raw;
 use decisions::{Decision, Done};
 use flash::Plan;
 use records::Log;
@@ -13,18 +13,15 @@ use records::Log;
 const LAMPORT_MAX: u64 = 18_446_744_073_709_551_615;
 
 // The larger of the number held and the one seen.
-fn larger(held: OptRaw, seen: u64) -> u64
+fn larger(held: Option<Raw>, seen: u64) -> u64
     ensures { result ≡ seen_of held seen }
 {
-    if held.some {
-        let raw = held.raw;
-        let old = bodies::value_of(raw);
-        let is_behind = seen < old;
-        if is_behind {
-            return old;
-        }
-    }
-    seen
+    let Some(raw) = held else {
+        return seen;
+    };
+    let old = bodies::value_of(raw);
+    let is_behind = seen < old;
+    if is_behind { old } else { seen }
 }
 
 // What advance_lamport decides: 1 more than this number; 6 where there is none.
@@ -32,7 +29,7 @@ fn advance_from(most: u64, room: bool) -> Decision
     ensures { result ≡ advance_from most room }
 {
     if most == LAMPORT_MAX {
-        return decisions::answers(Answer::WriteError, 0);
+        return Decision::Refuse(Refusal::WriteError);
     }
     let next = most + 1;
     decisions::writes(room, bodies::value_record(ids::LAMPORT, next), next)
@@ -43,8 +40,7 @@ pub fn advance_lamport(image: &mut [u8], log: Log, plan: Plan, seen: u64) -> Don
     ensures { ShowsDone (advance_of image.old log plan seen) result image.new }
 {
     let n = flash::sectors(image.len());
-    let e = reads::enter(log, n, true, ids::VALUE_TAG, ids::LAMPORT);
-    let held = e.held;
-    let d = advance_from(larger(held, seen), e.room);
-    decisions::perform(image, log, decisions::unused(plan), n, e, d)
+    let entry = reads::enter(log, n, true, ids::VALUE_TAG, ids::LAMPORT);
+    let decided = entry.map(|e| (e.at, advance_from(larger(e.held, seen), e.room)));
+    decisions::perform(image, log, decisions::unused(plan), n, decided)
 }

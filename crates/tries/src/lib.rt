@@ -10,50 +10,32 @@ pub use spends::{set, spend};
 
 // What stands here uses:
 ghost use Rattle.std.specs.Prelude.{◌≡◌};
-ghost use Rattle.tries.specs.Tries.{tries_left_of, tries_left_says_of, tries_left_says, load_of};
+ghost use Rattle.basics.specs.Says.{option_says};
+ghost use Rattle.tries.specs.Tries.{tries_left_of, tries_left_says_of, load_of};
 
-use basics::Answer;
-use reads::{Counter, Told};
+use basics::Refusal;
 use records::Log;
 
-// The tries left of a credential, where a record of it is held.
-#[derive(Clone, Copy)]
-pub enum TriesLeft {
-    Refused(Answer),
-    Nothing,
-    Tries(u8),
-}
-
 // The tries left of a credential: its counter's, where one is held.
-pub fn remaining(log: Log, credential: u8) -> TriesLeft
-    ensures { (result ≡ tries_left_of log credential) × (tries_left_says result ≡ tries_left_says_of log credential) }
+pub fn remaining(log: Log, credential: u8) -> Result<Option<u8>, Refusal>
+    ensures { (result ≡ tries_left_of log credential) × (option_says result ≡ tries_left_says_of log credential) }
 {
-    match reads::get(log, credential) {
-        Counter::Refused(answer) => TriesLeft::Refused(answer),
-        Counter::Nothing => TriesLeft::Nothing,
-        Counter::Held(s) => TriesLeft::Tries(s.remaining()),
-    }
+    let held = reads::get(log, credential)?;
+    Ok(held.map(|counter| counter.remaining()))
 }
 
 // The tries that an applet starts with. 0 where the log would answer 4 or 5; the fresh number only if nothing is held and no record exists.
-pub fn load(log: Log, credential: u8, exists: bool, fresh: u8) -> Told
+pub fn load(log: Log, credential: u8, exists: bool, fresh: u8) -> Result<u8, Refusal>
     ensures { result ≡ load_of log credential exists fresh }
 {
     match remaining(log, credential) {
-        TriesLeft::Refused(answer) => {
-            let is_of_state = 4 <= basics::number(answer);
-            if is_of_state {
-                return Told::of(0);
-            }
-            Told::refused(answer)
-        }
-        TriesLeft::Nothing => {
+        Ok(held) => {
             let is_lost = exists;
-            if is_lost {
-                return Told::of(0);
-            }
-            Told::of(fresh as u64)
+            Ok(held.unwrap_or(if is_lost { 0 } else { fresh }))
         }
-        TriesLeft::Tries(n) => Told::of(n as u64),
+        Err(refusal) => {
+            let is_of_state = 4 <= refusal.number();
+            if is_of_state { Ok(0) } else { Err(refusal) }
+        }
     }
 }

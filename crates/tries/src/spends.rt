@@ -4,22 +4,20 @@ ghost use Rattle.std.specs.Prelude.{◌≡◌};
 ghost use Rattle.decisions.specs.Outcomes.{ShowsDone};
 ghost use Rattle.tries.specs.Tries.{start_of, spend_from, set_decision, spend_of, set_of};
 
-use basics::Answer;
-use codec::OptRaw;
+use codec::Raw;
 use decisions::{Decision, Done};
 use flash::Plan;
-use ids::{CounterState, Next};
+use ids::CounterState;
 use records::Log;
 
 // The counter that is held, or a fresh one where none is.
-fn start(held: OptRaw, fresh: u8) -> CounterState
+fn start(held: Option<Raw>, fresh: u8) -> CounterState
     ensures { result ≡ start_of held fresh }
 {
-    if held.some {
-        let raw = held.raw;
-        return bodies::counter_of(raw);
+    match held {
+        Some(raw) => bodies::counter_of(raw),
+        None => CounterState::fresh(fresh),
     }
-    CounterState::fresh(fresh)
 }
 
 // What spend decides on a counter: 0 tries write nothing, the highest total is 6, else one failure more.
@@ -29,15 +27,11 @@ fn spend_from(s: CounterState, room: bool, credential: u8) -> Decision
     let before = s.remaining();
     let is_none_left = before == 0;
     if is_none_left {
-        return decisions::answers(Answer::Done, 0);
+        return Decision::Give(0);
     }
     match s.after_failure() {
-        Next::Refused(answer) => decisions::answers(answer, 0),
-        Next::State(new) => decisions::writes(
-            room,
-            bodies::counter_record(credential, new),
-            before as u64,
-        ),
+        Err(refusal) => Decision::Refuse(refusal),
+        Ok(new) => decisions::writes(room, bodies::counter_record(credential, new), before as u64),
     }
 }
 
@@ -47,32 +41,26 @@ pub fn spend(image: &mut [u8], log: Log, plan: Plan, credential: u8, current: u8
     ensures { ShowsDone (spend_of image.old log plan credential current) result image.new }
 {
     let n = flash::sectors(image.len());
-    let e = reads::enter(
-        log,
-        n,
-        ids::is_credential(credential),
-        ids::COUNTER_TAG,
-        credential,
-    );
-    let held = e.held;
-    let d = spend_from(start(held, current), e.room, credential);
-    decisions::perform(image, log, decisions::unused(plan), n, e, d)
+    let known = ids::is_credential(credential);
+    let entry = reads::enter(log, n, known, ids::COUNTER_TAG, credential);
+    let decided = entry.map(|e| (e.at, spend_from(start(e.held, current), e.room, credential)));
+    decisions::perform(image, log, decisions::unused(plan), n, decided)
 }
 
 // What set decides: nothing is written where so many remain already.
-fn set_decision(held: OptRaw, room: bool, credential: u8, tries: u8) -> Decision
+fn set_decision(held: Option<Raw>, room: bool, credential: u8, tries: u8) -> Decision
     ensures { result ≡ set_decision held room credential tries }
 {
     let s = start(held, tries);
     let new = s.after_reset(tries);
     let written = decisions::writes(room, bodies::counter_record(credential, new), 0);
-    if !held.some {
+    if held.is_none() {
         return written;
     }
     let left = s.remaining();
     let is_same = left == tries;
     if is_same {
-        return decisions::answers(Answer::Done, 0);
+        return Decision::Give(0);
     }
     written
 }
@@ -82,14 +70,8 @@ pub fn set(image: &mut [u8], log: Log, plan: Plan, credential: u8, tries: u8) ->
     ensures { ShowsDone (set_of image.old log plan credential tries) result image.new }
 {
     let n = flash::sectors(image.len());
-    let e = reads::enter(
-        log,
-        n,
-        ids::is_credential(credential),
-        ids::COUNTER_TAG,
-        credential,
-    );
-    let held = e.held;
-    let d = set_decision(held, e.room, credential, tries);
-    decisions::perform(image, log, decisions::unused(plan), n, e, d)
+    let known = ids::is_credential(credential);
+    let entry = reads::enter(log, n, known, ids::COUNTER_TAG, credential);
+    let decided = entry.map(|e| (e.at, set_decision(e.held, e.room, credential, tries)));
+    decisions::perform(image, log, decisions::unused(plan), n, decided)
 }

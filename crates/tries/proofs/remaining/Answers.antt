@@ -1,27 +1,31 @@
 -- `tries::remaining` meets its contract.
-use mathlib.Core.Path.{◌≡◌, refl, sym, ap, ◌∙◌}
-use Prim.Native.Nat.{ℕ}
+use mathlib.Core.Path.{◌≡◌, sym, ap, ◌∙◌}
+use Rattle.std.proofs.Common.{rules}
+use Rattle.std.specs.Prelude.{Option, Result, Ok, option_map}
+use Rattle.std.proofs.lemmas.Result.{err_from_is_err_and}
 use Rattle.basics.proofs.SaysLaws.{and_says}
-use Rattle.records.specs.declared.Log.{Log}
-use Rattle.reads.specs.declared.Counter.{Counter}
-use Rattle.reads.specs.Reads.{get_of}
-use Rattle.tries.specs.declared.TriesLeft.{TriesLeft}
-use Rattle.tries.specs.declared.TriesLeft.TheVariants.{Tries}
-use Rattle.tries.specs.Tries.{tries_left_by, tries_left_of, tries_left_says, tries_left_says_of}
+use Rattle.basics.specs.Says.{option_says}
+use Rattle.basics.specs.declared.Refusal.{Refusal}
+use Rattle.ids.specs.declared.CounterState.{CounterState}
+use Rattle.ids.specs.Counters.{remaining_of}
+use Rattle.tries.specs.Tries.{tries_left_by, tries_left_of}
 use Rattle.tries.proofs.TriesSays.{tries-left_says}
 use Rattle.tries.proofs.remaining.Goals as goal
+use Rattle.tries.proofs.remaining.Goals.{After-get}
 
--- what is handed back, by the counter that was got, and so what it says
-answers : (log : Log) (credential : ℕ) (got x : Counter) {r : TriesLeft} → got ≡ get_of log credential → r ≡ tries_left_by x → got ≡ x
-    → (r ≡ tries_left_of log credential) × (tries_left_says r ≡ tries_left_says_of log credential)
-answers log credential got x read r e =
-    and_says tries_left_says (tries-left_says log credential) (r ∙ ap tries_left_by (sym e ∙ read))
+-- what is left, by the counter that was got
+left_is : (c : After-get) (x : Result (Option CounterState) Refusal) → c.get.result ≡ x → tries_left_by x ≡ tries_left_of c.args.log c.args.credential
+left_is c x e = ap tries_left_by (sym e ∙ c.get.ensures.0)
 
-pub returns-in-Refused : goal.returns-in-Refused
-returns-in-Refused c = answers _ _ _ _ c.get.ensures.0 refl c.in-Refused.is
+pub returns-in_err-held : goal.returns-in_err-held
+returns-in_err-held c =
+    let a = c.args in
+    let p = err_from_is_err_and c.from_residual.result c.from_residual.ensures.1 in
+    and_says option_says (tries-left_says a.log a.credential)
+    (rw (p.1, p.2) (left_is (goal.at.returns-in_err-held c).After-get _ c.in_err-held.was))
 
-pub returns-in-Nothing : goal.returns-in-Nothing
-returns-in-Nothing c = answers _ _ _ _ c.get.ensures.0 refl c.in-Nothing.is
-
-pub returns-in-Held : goal.returns-in-Held
-returns-in-Held c = answers _ _ _ _ c.get.ensures.0 (ap Tries c.remaining.ensures) c.in-Held.is
+pub returns : goal.returns
+returns c =
+    let a = c.args in
+    let mapped : c.map.result ≡ option_map remaining_of c.in_ok-held.held = search rules in
+    and_says option_says (tries-left_says a.log a.credential) (ap Ok mapped ∙ left_is (goal.at.returns c).After-get _ c.in_ok-held.was)

@@ -1,55 +1,66 @@
 -- `counter_log::anchors::first_anchor` meets its contract.
 use mathlib.Core.Path.{◌≡◌, sym, ap, subst, ◌∙◌}
-use mathlib.Core.Bool.{Bool, true, false}
+use mathlib.Core.Bool.{Bool, true, false, not}
 use mathlib.Core.List.{List, []}
 use native.Mathlib.Omega.{arith}
-use borrow.Author.Tests.{not-true, not-false}
+use Prim.Native.Nat.{ℕ}
+use Rattle.std.specs.Prelude.{None, Result, is_ok}
+use Rattle.std.specs.Result.{result_unwrap_or}
+use Rattle.basics.specs.declared.Refusal.{Refusal}
 use Rattle.basics.specs.Answers.{is_done}
+use Rattle.basics.proofs.AnswersLaws.{beside-done}
 use Rattle.codec.specs.declared.Raw.{Raw}
-use Rattle.codec.specs.Slots.{none}
 use Rattle.flash.specs.Run.{Flash}
 use Rattle.records.specs.Table.{place_of}
 use Rattle.records.specs.Logs.{records_of}
 use Rattle.records.specs.Fitting.{log_fits}
 use Rattle.sectors.specs.Shown.{flash_with}
-use Rattle.decisions.specs.Decisions.{when_active, anchor_decision}
+use Rattle.decisions.specs.Decisions.{when_active, record_in, anchor_decision}
+use Rattle.decisions.specs.declared.Decision.{Decision}
 use Rattle.decisions.specs.declared.outcomes.Done.{Done}
 use Rattle.decisions.specs.Outcomes.{Outcome, ShowsDone}
 use Rattle.decisions.specs.Performing.{performed, formatted}
 use Rattle.counter_log.proofs.CallsAnchor.{format_cheap, format-fits, format-empty, first-stopped, first-decided}
 use Rattle.counter_log.proofs.anchors.first_anchor.Goals as goal
+use Rattle.counter_log.proofs.anchors.first_anchor.Goals.{After-is_err}
 
-pub returns-then-not-is_done : goal.returns-then-not-is_done
-returns-then-not-is_done c =
-    let flash-of : Bool → Flash = λ cut. flash_with c.args.image.now c.args.used cut in
-    let outcome : Bool → Outcome = λ cut. formatted [] c.args.sectors c.args.log (flash-of cut) in
-    let shown : (cut : Bool) → ShowsDone (outcome cut) c.format_with-f.result c.format_with-f.new.image = λ cut. c.format_with-f.ensures cut in
-    let told : (cut : Bool) → (b : Bool) → is_done c.format_with-f.result.answer ≡ b → is_done (outcome cut).answer ≡ b =
-    λ cut b e. sym (ap (λ (r : Done). is_done r.answer) (shown cut).answered) ∙ e in
+-- ---- the empty format, and whether it was done
+abbrev flash-of : (c : After-is_err) → Bool → Flash
+flash-of c cut = flash_with c.args.image.now c.args.used cut
+
+abbrev outcome : (c : After-is_err) → Bool → Outcome
+outcome c cut = formatted [] c.args.sectors c.args.log (flash-of c cut)
+
+shown : (c : After-is_err) (cut : Bool) → ShowsDone (outcome c cut) c.format_with-f.result c.format_with-f.new.image
+shown c cut = c.format_with-f.ensures cut
+
+told : (c : After-is_err) (cut b : Bool) → not c.is_err.result ≡ b → is_done (outcome c cut).answer ≡ b
+told c cut b e =
+    sym (beside-done (outcome c cut).answer (outcome c cut).value)
+    ∙ ap (λ (r : Done). is_ok r.answer) (sym (shown c cut).answered)
+    ∙ c.is_err.ensures.negation
+    ∙ e
+
+empty : (c : After-is_err) (cut : Bool) → not c.is_err.result ≡ true → records_of (outcome c cut).log ≡ []
+empty c cut formed = format-empty c.args.sectors c.args.log (flash-of c cut) c.requires.some (told c cut true formed)
+
+pub returns-then-is_err : goal.returns-then-is_err
+returns-then-is_err c =
     λ cut.
     let a = c.args in
-    rw
-    (first-stopped a.new a.sectors (outcome cut)
-    (told cut false (sym c.is_done.ensures ∙ not-true c.is_done.result c.if-not-is_done.true-raw)))
-    (shown cut)
+    let form = (goal.at.returns-then-is_err c).After-is_err in
+    rw (first-stopped a.new a.sectors (outcome form cut) (told form cut false (ap not c.if-is_err.true))) (shown form cut)
 
 pub perform-requires : goal.perform-requires
 unfolding place_of
 perform-requires c =
-    let flash-of : Bool → Flash = λ cut. flash_with c.args.image.now c.args.used cut in
-    let outcome : Bool → Outcome = λ cut. formatted [] c.args.sectors c.args.log (flash-of cut) in
-    let shown : (cut : Bool) → ShowsDone (outcome cut) c.format_with-f.result c.format_with-f.new.image = λ cut. c.format_with-f.ensures cut in
-    let told : (cut : Bool) → (b : Bool) → is_done c.format_with-f.result.answer ≡ b → is_done (outcome cut).answer ≡ b =
-    λ cut b e. sym (ap (λ (r : Done). is_done r.answer) (shown cut).answered) ∙ e in
-    let formed : is_done c.format_with-f.result.answer ≡ true = sym c.is_done.ensures ∙ not-false c.is_done.result c.if-not-is_done.false-raw in
+    let form = (goal.at.perform-requires c).After-is_err in
+    let formed : not c.is_err.result ≡ true = ap not c.if-is_err.false in
     let fits : log_fits c.args.sectors c.format_with-f.result.log ≡ true =
-    ap (λ (r : Done). log_fits c.args.sectors r.log) (shown true).answered
-    ∙ format-fits c.args.sectors c.args.log (flash-of true) c.requires.some (told true true formed) in
-    let empty : (cut : Bool) → records_of (outcome cut).log ≡ [] =
-    λ cut. format-empty c.args.sectors c.args.log (flash-of cut) c.requires.some (told cut true formed) in
-    let r = c.format_with-f.result in
-    let e = (shown true).answered in
-    let cheap = format_cheap c.args.sectors c.args.log (flash-of true) c.requires.fit.few c.requires.programmed c.requires.erased in
+    ap (λ (r : Done). log_fits c.args.sectors r.log) (shown form true).answered
+    ∙ format-fits c.args.sectors c.args.log (flash-of form true) c.requires.some (told form true true formed) in
+    let e = (shown form true).answered in
+    let cheap = format_cheap c.args.sectors c.args.log (flash-of form true) c.requires.fit.few c.requires.programmed c.requires.erased in
     record {
       room = λ _. record {
         few = c.requires.fit.few;
@@ -58,31 +69,27 @@ perform-requires c =
         slots = omega (arith, cheap.0, c.requires.fit.few, ap (λ (x : Done). x.programmed) e);
         erases = omega (arith, cheap.1, c.requires.fit.few, ap (λ (x : Done). x.erased) e);
       };
-      placed = λ _ _. record {
-        place =
-            sym (ap (λ (t : List Raw). place_of c.anchor_decision-d.result.rec.tag c.anchor_decision-d.result.rec.id t)
-            (ap (λ (x : Done). records_of x.log) e ∙ empty true));
-        free = omega arith;
-      };
+      placed = λ at d h w.
+          let own : ℕ × Decision = (0, c.anchor_decision-d.result) in
+          let is : own ≡ (at, d) = ap (λ (x : Result (ℕ × Decision) Refusal). result_unwrap_or x own) h in
+          let key = record_in d in
+          record {
+            place =
+                sym (ap (λ (p : ℕ × Decision). p.0) is)
+                ∙ sym (ap (λ (t : List Raw). place_of key.tag key.id t) (ap (λ (x : Done). records_of x.log) e ∙ empty form true formed));
+            free = omega (arith, ap (λ (p : ℕ × Decision). p.0) is);
+          };
     }
 
 pub returns : goal.returns
 returns c =
-    let flash-of : Bool → Flash = λ cut. flash_with c.args.image.now c.args.used cut in
-    let outcome : Bool → Outcome = λ cut. formatted [] c.args.sectors c.args.log (flash-of cut) in
-    let shown : (cut : Bool) → ShowsDone (outcome cut) c.format_with-f.result c.format_with-f.new.image = λ cut. c.format_with-f.ensures cut in
-    let told : (cut : Bool) → (b : Bool) → is_done c.format_with-f.result.answer ≡ b → is_done (outcome cut).answer ≡ b =
-    λ cut b e. sym (ap (λ (r : Done). is_done r.answer) (shown cut).answered) ∙ e in
-    let formed : is_done c.format_with-f.result.answer ≡ true = sym c.is_done.ensures ∙ not-false c.is_done.result c.if-not-is_done.false-raw in
-    let empty : (cut : Bool) → records_of (outcome cut).log ≡ [] =
-    λ cut. format-empty c.args.sectors c.args.log (flash-of cut) c.requires.some (told cut true formed) in
+    let form = (goal.at.returns c).After-is_err in
+    let formed : not c.is_err.result ≡ true = ap not c.if-is_err.false in
     λ cut.
     let a = c.args in
-    let o = outcome cut in
-    let e = (shown cut).answered in
-    let left = (shown cut).left in
-    let decision : c.anchor_decision-d.result ≡ anchor_decision none true a.new =
-    c.anchor_decision-d.ensures ∙ ap (λ (x : Raw). anchor_decision (record { some = false; raw = x }) true a.new) c.none-z.ensures in
+    let o = outcome form cut in
+    let e = (shown form cut).answered in
+    let left = (shown form cut).left in
     let same : performed (when_active c.format_with-f.result.log.state c.anchor_decision-d.result) a.sectors c.format_with-f.result.log
     (record {
       image = c.format_with-f.new.image;
@@ -91,9 +98,9 @@ returns c =
       erased = c.format_with-f.result.erased;
       cut = o.flash.cut;
     })
-    ≡ performed (when_active o.log.state (anchor_decision none true a.new)) a.sectors o.log o.flash =
+    ≡ performed (when_active o.log.state (anchor_decision None true a.new)) a.sectors o.log o.flash =
     λ i.
-    performed (when_active (e i).log.state (decision i)) a.sectors (e i).log
+    performed (when_active (e i).log.state (c.anchor_decision-d.ensures i)) a.sectors (e i).log
     (record { image = left i; plan = (e i).plan; programmed = (e i).programmed; erased = (e i).erased; cut = o.flash.cut }) in
-    rw (first-decided a.new a.sectors o (told cut true formed) (empty cut))
+    rw (first-decided a.new a.sectors o (told form cut true formed) (empty form cut formed))
     (subst (λ (x : Outcome). ShowsDone x c.perform.result c.perform.new.image) same (c.perform.ensures o.flash.cut))

@@ -1,43 +1,36 @@
 -- `counter_log::puts::put_value` meets its contract.
-use mathlib.Core.Path.{◌≡◌, ap₂, ◌∙◌}
 use mathlib.Core.Bool.{Bool}
-use Prim.Native.Nat.{ℕ}
-use lib.ListN.{length}
-use Rattle.ids.specs.Ids.{value_tag, is_value}
-use Rattle.codec.specs.declared.OptRaw.{OptRaw}
-use Rattle.flash.specs.Image.{sectors_in}
+use Rattle.std.proofs.Common.{rules}
+use Rattle.std.specs.Prelude.{Option}
+use Rattle.codec.specs.declared.Raw.{Raw}
 use Rattle.records.proofs.LogsOwned.{whole-log}
+use Rattle.ids.specs.Ids.{value_tag, is_value}
 use Rattle.decisions.specs.Decisions.{value_decision}
 use Rattle.decisions.proofs.DecisionsKeyed.{value-keyed}
-use Rattle.reads.specs.Entering.{entry_of}
-use Rattle.decisions.proofs.OutcomesCalls.{call-ready, call_meets}
+use Rattle.decisions.proofs.OutcomesCalls.{Steps, call-ready, call_meets}
 use Rattle.counter_log.specs.Calls.{put_value_of}
 use Rattle.counter_log.proofs.puts.put_value.Goals as goal
+use Rattle.counter_log.proofs.puts.put_value.Goals.{After-unused}
+
+steps : (c : After-unused)
+    → Steps c.args.image.now c.args.log c.args.plan (is_value c.args.id) value_tag c.args.id (λ (held : Option Raw) (room : Bool). value_decision held room c.args.id c.args.new)
+    c.sectors-n.result c.unused.result c.map-decided.result
+steps c =
+    record {
+      sure = c.is_value.result;
+      entry = c.enter-entry.result;
+      counted = c.sectors-n.ensures;
+      surely = c.is_value.ensures;
+      fresh = c.unused.ensures;
+      entering = c.enter-entry.ensures;
+      deciding = search rules;
+    }
 
 pub perform-requires : goal.perform-requires
 perform-requires c =
-    let is-entry : let a = c.args in c.enter-e.result ≡ entry_of (sectors_in (length a.image.now)) a.log (is_value a.id) value_tag a.id = let a = c.args in
-    c.enter-e.ensures
-    ∙ ap₂ (λ (n : ℕ) (known : Bool). entry_of n a.log known value_tag a.id) c.sectors-n.ensures
-    c.is_value.ensures in
     let a = c.args in
-    let x = c.enter-e.result in
-    call-ready a.image.now a.log a.plan (is_value a.id) value_tag a.id x is-entry
-    (λ (held : OptRaw) (room : Bool). value_decision held room a.id a.new) c.sectors-n.result c.unused.result
-    c.value_decision-d.result
-    c.sectors-n.ensures c.unused.ensures c.value_decision-d.ensures (whole-log a.log c.well_formed.1.0)
-    (value-keyed x.held x.room a.id a.new)
+    call-ready (steps (goal.at.perform-requires c).After-unused) (whole-log a.log c.well_formed.1.0) (λ held room. value-keyed held room a.id a.new)
 
 pub returns : goal.returns
 unfolding put_value_of
-returns c =
-    let is-entry : let a = c.args in c.enter-e.result ≡ entry_of (sectors_in (length a.image.now)) a.log (is_value a.id) value_tag a.id = let a = c.args in
-    c.enter-e.ensures
-    ∙ ap₂ (λ (n : ℕ) (known : Bool). entry_of n a.log known value_tag a.id) c.sectors-n.ensures
-    c.is_value.ensures in
-    let a = c.args in
-    call_meets a.image.now a.log a.plan (is_value a.id) value_tag a.id c.enter-e.result is-entry
-    (λ (held : OptRaw) (room : Bool). value_decision held room a.id a.new) c.sectors-n.result c.unused.result
-    c.value_decision-d.result
-    c.sectors-n.ensures c.unused.ensures c.value_decision-d.ensures c.perform.result c.perform.new.image
-    c.perform.ensures
+returns c = call_meets (steps (goal.at.returns c).After-unused) c.perform.result c.perform.new.image c.perform.ensures

@@ -1,64 +1,69 @@
 -- `decisions::actions::perform` meets its contract.
-use mathlib.Core.Path.{◌≡◌, refl, sym, ◌∙◌}
-use mathlib.Core.Bool.{Bool, true}
-use borrow.Author.Tests.{not-true, not-false}
-use Rattle.basics.specs.Answers.{is_done}
-use Rattle.flash.specs.Run.{Flash}
+use mathlib.Core.Path.{refl, ap, subst}
+use Prim.Native.Nat.{ℕ}
+use Rattle.std.specs.Prelude.{Result, is_ok}
+use Rattle.basics.specs.declared.Refusal.{Refusal}
+use Rattle.codec.specs.declared.Raw.{Raw}
 use Rattle.sectors.specs.Shown.{flash_with}
-use Rattle.decisions.proofs.PerformingLaws.{on-refused, on-unformatted, on-failed, on-given, on-written}
+use Rattle.decisions.specs.Decisions.{writes_record, record_in}
+use Rattle.decisions.specs.declared.Decision.{Decision}
+use Rattle.decisions.specs.Ready.{Placed}
+use Rattle.decisions.proofs.PerformingLaws.{on-unformatted, on-failed, on-refused, on-given, on-written}
 use Rattle.decisions.proofs.actions.perform.Goals as goal
-
-pub returns-then-not-is_done : goal.returns-then-not-is_done
-returns-then-not-is_done c =
-    let flash-of : Bool → Flash = λ cut. flash_with c.args.image.now c.args.used cut in
-    λ cut.
-    let a = c.args in
-    rw
-    (on-refused a.entry a.decision a.sectors a.log (flash-of cut)
-    (sym c.is_done.ensures ∙ not-true c.is_done.result c.if-not-is_done.true-raw))
-    (record { answered = c.answered.ensures; left = refl })
-
-pub returns-then-not-decision : goal.returns-then-not-decision
-returns-then-not-decision c =
-    let flash-of : Bool → Flash = λ cut. flash_with c.args.image.now c.args.used cut in
-    let entered : is_done c.args.entry.answer ≡ true = sym c.is_done.ensures ∙ not-false c.is_done.result c.if-not-is_done.false-raw in
-    λ cut.
-    let a = c.args in
-    rw
-    (on-given a.entry a.decision a.sectors a.log (flash-of cut) entered c.in-Active.sector c.in-Active.seq c.in-Active.head c.in-Active.is
-    (not-true a.decision.write c.if-not-decision.true))
-    (record { answered = c.answered-then-not-decision.ensures; left = refl })
-
-pub write_record-requires : goal.write_record-requires
-write_record-requires c =
-    let entered : is_done c.args.entry.answer ≡ true = sym c.is_done.ensures ∙ not-false c.is_done.result c.if-not-is_done.false-raw in
-    (c.requires.room entered, c.in-Active.is, c.requires.placed entered (not-false c.args.decision.write c.if-not-decision.false))
 
 pub returns-in-Unformatted : goal.returns-in-Unformatted
 returns-in-Unformatted c =
-    let flash-of : Bool → Flash = λ cut. flash_with c.args.image.now c.args.used cut in
-    let entered : is_done c.args.entry.answer ≡ true = sym c.is_done.ensures ∙ not-false c.is_done.result c.if-not-is_done.false-raw in
     λ cut.
     let a = c.args in
-    rw (on-unformatted a.entry a.decision a.sectors a.log (flash-of cut) entered c.in-Unformatted.is)
+    let x = c.in-Ok.x in
+    rw (on-unformatted a.decided a.sectors a.log (flash_with a.image.now a.used cut) x.0 x.1 c.in-Ok.is c.in-Unformatted.is)
     (record { answered = c.answered-in-Unformatted.ensures; left = refl })
 
 pub returns-in-Failed : goal.returns-in-Failed
 returns-in-Failed c =
-    let flash-of : Bool → Flash = λ cut. flash_with c.args.image.now c.args.used cut in
-    let entered : is_done c.args.entry.answer ≡ true = sym c.is_done.ensures ∙ not-false c.is_done.result c.if-not-is_done.false-raw in
     λ cut.
     let a = c.args in
-    rw (on-failed a.entry a.decision a.sectors a.log (flash-of cut) entered c.in-Failed.is)
+    let x = c.in-Ok.x in
+    rw (on-failed a.decided a.sectors a.log (flash_with a.image.now a.used cut) x.0 x.1 c.in-Ok.is c.in-Failed.is)
     (record { answered = c.answered-in-Failed.ensures; left = refl })
 
-pub returns-else-not-decision : goal.returns-else-not-decision
-returns-else-not-decision c =
-    let flash-of : Bool → Flash = λ cut. flash_with c.args.image.now c.args.used cut in
-    let entered : is_done c.args.entry.answer ≡ true = sym c.is_done.ensures ∙ not-false c.is_done.result c.if-not-is_done.false-raw in
+pub returns-in-Refuse : goal.returns-in-Refuse
+returns-in-Refuse c =
     λ cut.
     let a = c.args in
-    rw
-    (on-written a.entry a.decision a.sectors a.log (flash-of cut) entered c.in-Active.sector c.in-Active.seq c.in-Active.head
-    c.in-Active.is (not-false a.decision.write c.if-not-decision.false))
+    let x = c.in-Ok.x in
+    let s = c.in-Active in
+    let d = c.in-Refuse in
+    rw (on-refused a.decided a.sectors a.log (flash_with a.image.now a.used cut) x.0 x.1 c.in-Ok.is s.sector s.seq s.head s.is d.refusal d.is)
+    (record { answered = c.answered-in-Refuse.ensures; left = refl })
+
+pub returns-in-Give : goal.returns-in-Give
+returns-in-Give c =
+    λ cut.
+    let a = c.args in
+    let x = c.in-Ok.x in
+    let s = c.in-Active in
+    let d = c.in-Give in
+    rw (on-given a.decided a.sectors a.log (flash_with a.image.now a.used cut) x.0 x.1 c.in-Ok.is s.sector s.seq s.head s.is d.value d.is)
+    (record { answered = c.answered-in-Give.ensures; left = refl })
+
+-- the log was let in, and the place beside the decision is its record's
+pub write_record-requires : goal.write_record-requires
+write_record-requires c =
+    let x = c.in-Ok.x in
+    let d = c.in-Write in
+    let placed = c.requires.placed x.0 x.1 c.in-Ok.is (ap writes_record d.is) in (
+      c.requires.room (ap (λ (r : Result (ℕ × Decision) Refusal). is_ok r) c.in-Ok.is),
+      c.in-Active.is,
+      subst (λ (r : Raw). Placed c.args.log x.0 r) (ap record_in d.is) placed,
+    )
+
+pub returns-in-Write : goal.returns-in-Write
+returns-in-Write c =
+    λ cut.
+    let a = c.args in
+    let x = c.in-Ok.x in
+    let s = c.in-Active in
+    let d = c.in-Write in
+    rw (on-written a.decided a.sectors a.log (flash_with a.image.now a.used cut) x.0 x.1 c.in-Ok.is s.sector s.seq s.head s.is d.rec d.value d.is)
     (c.write_record.ensures cut)

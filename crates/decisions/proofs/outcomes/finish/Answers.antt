@@ -1,12 +1,11 @@
 -- `decisions::outcomes::finish` meets its contract.
-use mathlib.Core.Path.{sym, ◌∙◌}
 use Rattle.decisions.specs.Ready.{finished_of}
 use Rattle.decisions.proofs.outcomes.finish.Goals as goal
 
-pub returns-then-is_done : goal.returns-then-is_done
+pub returns-in-Ok : goal.returns-in-Ok
 unfolding finished_of
-returns-then-is_done c = rw (sym c.is_done.ensures ∙ c.if-is_done.true) c.answered.ensures
+returns-in-Ok c = rw c.in-Ok.is c.answered.ensures
 
-pub returns : goal.returns
+pub returns-in-Err : goal.returns-in-Err
 unfolding finished_of
-returns c = rw (sym c.is_done.ensures ∙ c.if-is_done.false) c.answered-2.ensures
+returns-in-Err c = rw c.in-Err.is c.answered-in-Err.ensures

@@ -1,107 +1,63 @@
 -- `decisions::seeds::seed_table` meets its contract.
-use mathlib.Core.Path.{◌≡◌, refl, sym, ap, ap₂, ◌∙◌}
+use mathlib.Core.Path.{◌≡◌, sym, ap, ap₂, ◌∙◌}
 use mathlib.Core.List.{List, []}
-use Prim.Native.Nat.{ℕ, ◌+◌, ◌≤◌, ◌<◌}
+use Prim.Native.Nat.{ℕ, ◌+◌}
 use native.Mathlib.Omega.{arith}
-use lib.ListN.{get_or, set, drop, take}
-use lib.Seq.{length-take-le, get_or-take}
+use lib.ListN.{set, drop, take, length}
+use lib.Seq.{length-take-le}
 use Rattle.codec.specs.declared.Raw.{Raw}
-use Rattle.bodies.specs.Bodies.{counter_record}
-use Rattle.records.specs.Table.{limit, place_of, joined, new_count}
+use Rattle.records.specs.Table.{place_of, joined, new_count}
+use Rattle.records.specs.Logs.{places}
 use Rattle.records.proofs.TableFinding.{place-most}
 use Rattle.records.proofs.LogsPlaces.{places-take}
 use Rattle.records.proofs.TableStoring.{stored, new_count_most}
-use Rattle.decisions.specs.declared.seeds.Seed.{Seed}
 use Rattle.decisions.specs.Seeds.{seeded, seeded_of}
-use Rattle.decisions.proofs.SeedsLaws.{no_seed, seeded_end, seeded-turn}
+use Rattle.decisions.proofs.SeedsLaws.{seeded_end, seeded-turn}
 use Rattle.decisions.proofs.seeds.seed_table.Goals as goal
 
-pub loop-i-init : goal.loop-i-init
-loop-i-init c =
-    record {
-      t = [];
-      placed = c.empty_table-table.ensures;
-      counted = refl;
-      few = omega arith;
-      within = omega arith;
-      long = length-take-le c.args.count c.args.seeds (omega (arith, c.requires, c.well_formed.0.1.0.1));
-      rest = refl;
-    }
-
-pub offset_bounds-seeds-i : goal.offset_bounds-seeds-i
-offset_bounds-seeds-i c = omega (arith, c.requires)
-
-pub bounds-seeds-i : goal.bounds-seeds-i
-bounds-seeds-i c = omega (arith, c.requires)
-
-pub place-at-requires : goal.place-at-requires
-place-at-requires c =
-    let short : c.loop-i.n ≤ 8 = omega (arith, c.loop-i.invariant.few, c.loop-i.invariant.within, c.requires) in
-    omega (arith, short)
+-- a key's place in the table so far
+place_in : (r : Raw) (t table : List Raw) (n p : ℕ) → table ≡ places t → n ≡ length t → p ≡ place_of r.tag r.id (take n table)
+    → p ≡ place_of r.tag r.id t
+place_in r t table n p placed counted e = e ∙ ap (place_of r.tag r.id) (ap₂ take counted placed ∙ places-take t)
 
 pub offset_bounds-table-at : goal.offset_bounds-table-at
 offset_bounds-table-at c =
-    let short : c.loop-i.n ≤ 8 = omega (arith, c.loop-i.invariant.few, c.loop-i.invariant.within, c.requires) in
-    let so_far : List Raw = c.loop-i.invariant.t in
-    let rec-of : Raw = c.counter_record-r.result in
-    let records-are : take c.loop-i.n c.loop-i.table ≡ so_far = ap₂ take c.loop-i.invariant.counted c.loop-i.invariant.placed ∙ places-take so_far in
-    let place_is : c.place-at.result ≡ place_of rec-of.tag rec-of.id so_far = c.place-at.ensures ∙ ap (place_of rec-of.tag rec-of.id) records-are in
-    let free : c.place-at.result < limit = omega (arith, place_is, place-most rec-of.tag rec-of.id so_far, c.loop-i.invariant.counted, short) in
-    omega (arith, free)
+    let r = c.counter_record-r.result in
+    let inv = c.loop-s.invariant in
+    let size = length-take-le c.args.count c.args.seeds (omega (arith, c.requires, c.well_formed.0.1.0.1)) in
+    let here = place_in r inv.t c.loop-s.table c.loop-s.n c.place-at.result inv.placed inv.counted c.place-at.ensures in
+    omega (arith, size, here, place-most r.tag r.id inv.t, inv.counted, inv.few, c.requires, c.loop-s-test.true)
 
 pub bounds-table-at : goal.bounds-table-at
 bounds-table-at c =
-    let short : c.loop-i.n ≤ 8 = omega (arith, c.loop-i.invariant.few, c.loop-i.invariant.within, c.requires) in
-    let so_far : List Raw = c.loop-i.invariant.t in
-    let rec-of : Raw = c.counter_record-r.result in
-    let records-are : take c.loop-i.n c.loop-i.table ≡ so_far = ap₂ take c.loop-i.invariant.counted c.loop-i.invariant.placed ∙ places-take so_far in
-    let place_is : c.place-at.result ≡ place_of rec-of.tag rec-of.id so_far = c.place-at.ensures ∙ ap (place_of rec-of.tag rec-of.id) records-are in
-    let free : c.place-at.result < limit = omega (arith, place_is, place-most rec-of.tag rec-of.id so_far, c.loop-i.invariant.counted, short) in
-    free
+    let r = c.counter_record-r.result in
+    let inv = c.loop-s.invariant in
+    let size = length-take-le c.args.count c.args.seeds (omega (arith, c.requires, c.well_formed.0.1.0.1)) in
+    let here = place_in r inv.t c.loop-s.table c.loop-s.n c.place-at.result inv.placed inv.counted c.place-at.ensures in
+    omega (arith, size, here, place-most r.tag r.id inv.t, inv.counted, inv.few, c.requires, c.loop-s-test.true)
 
-pub new_count-n-requires : goal.new_count-n-requires
-new_count-n-requires c =
-    let short : c.loop-i.n ≤ 8 = omega (arith, c.loop-i.invariant.few, c.loop-i.invariant.within, c.requires) in
-    omega (arith, short)
-
-pub overflow_add-i : goal.overflow_add-i
-overflow_add-i c = omega (arith, c.requires)
-
-pub loop-i-preserved : goal.loop-i-preserved
-loop-i-preserved c =
-    let short : c.loop-i.n ≤ 8 = omega (arith, c.loop-i.invariant.few, c.loop-i.invariant.within, c.requires) in
-    let so_far : List Raw = c.loop-i.invariant.t in
-    let rec-of : Raw = c.counter_record-r.result in
-    let records-are : take c.loop-i.n c.loop-i.table ≡ so_far = ap₂ take c.loop-i.invariant.counted c.loop-i.invariant.placed ∙ places-take so_far in
-    let place_is : c.place-at.result ≡ place_of rec-of.tag rec-of.id so_far = c.place-at.ensures ∙ ap (place_of rec-of.tag rec-of.id) records-are in
-    let free : c.place-at.result < limit = omega (arith, place_is, place-most rec-of.tag rec-of.id so_far, c.loop-i.invariant.counted, short) in
-    let a = c.args in
-    let inv = c.loop-i.invariant in
-    let t = so_far in
-    let r = rec-of in
-    let made = stored r t (omega (arith, place_is, free)) in
-    let seed = get_or-take a.count a.seeds c.loop-i.i no_seed (omega arith) in
-    let rec-is : r ≡ counter_record (get_or (take a.count a.seeds) c.loop-i.i no_seed).credential
-    (get_or (take a.count a.seeds) c.loop-i.i no_seed).state =
-    c.counter_record-r.ensures ∙ ap (λ (s : Seed). counter_record s.credential s.state) (sym seed) in
-    let count = c.new_count-n.ensures ∙ ap₂ new_count inv.counted place_is ∙ made.1 in
+pub loop-s-preserved : goal.loop-s-preserved
+loop-s-preserved c =
+    let seeds = take c.args.count c.args.seeds in
+    let r = c.counter_record-r.result in
+    let inv = c.loop-s.invariant in
+    let size = length-take-le c.args.count c.args.seeds (omega (arith, c.requires, c.well_formed.0.1.0.1)) in
+    let here = place_in r inv.t c.loop-s.table c.loop-s.n c.place-at.result inv.placed inv.counted c.place-at.ensures in
+    let made = stored r inv.t (omega (arith, size, here, place-most r.tag r.id inv.t, inv.counted, inv.few, c.requires, c.loop-s-test.true)) in
     record {
-      t = joined r t;
-      placed = ap₂ (λ (x : List Raw) (k : ℕ). set x k r) inv.placed place_is ∙ made.0;
-      counted = count;
-      few = omega (arith, c.new_count-n.ensures, new_count_most c.loop-i.n c.place-at.result, inv.few);
-      within = omega arith;
-      long = inv.long;
+      t = joined r inv.t;
+      placed = ap₂ (λ (x : List Raw) (k : ℕ). set x k r) inv.placed here ∙ made.0;
+      counted = c.new_count-n.ensures ∙ ap₂ new_count inv.counted here ∙ made.1;
+      few = omega (arith, c.new_count-n.ensures, new_count_most c.loop-s.n c.place-at.result, inv.few);
       rest =
-          ap (λ (x : Raw). seeded (drop (c.loop-i.i + 1) (take a.count a.seeds)) (joined x t)) rec-is
-          ∙ sym (seeded-turn (take a.count a.seeds) c.loop-i.i t (omega (arith, inv.long)))
+          ap (λ (x : Raw). seeded (drop (c.loop-s.s-index + 1) seeds) (joined x inv.t)) c.counter_record-r.ensures
+          ∙ sym (seeded-turn seeds c.loop-s.s-index inv.t c.loop-s-test.true)
           ∙ inv.rest;
     }
 
 pub returns : goal.returns
 returns c =
-    let a = c.args in
-    let inv = c.loop-i.invariant in
-    let whole : inv.t ≡ seeded (take a.count a.seeds) [] =
-    sym (seeded_end (take a.count a.seeds) c.loop-i.i inv.t (omega (arith, inv.long))) ∙ inv.rest in
+    let seeds = take c.args.count c.args.seeds in
+    let inv = c.loop-s.invariant in
+    let whole : inv.t ≡ seeded seeds [] = sym (seeded_end seeds c.loop-s.s-index inv.t c.loop-s-test.false) ∙ inv.rest in
     ap₂ (λ (n : ℕ) (t : List Raw). record { count = n; table = t }) inv.counted inv.placed ∙ ap seeded_of whole

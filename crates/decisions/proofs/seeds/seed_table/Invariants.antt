@@ -1,7 +1,7 @@
 -- `decisions::seeds::seed_table` meets its contract. The loop's invariant: the seeds from here on, put into the table so far, make the whole.
 use mathlib.Core.Path.{◌≡◌}
 use mathlib.Core.List.{List, []}
-use Prim.Native.Nat.{ℕ, ◌-◌, ◌≤◌}
+use Prim.Native.Nat.{ℕ, ◌≤◌}
 use lib.ListN.{length, drop, take}
 use Rattle.codec.specs.declared.Raw.{Raw}
 use Rattle.records.specs.Logs.{places}
@@ -10,17 +10,12 @@ use Rattle.decisions.specs.Seeds.{seeded}
 use Rattle.decisions.proofs.seeds.seed_table.Given as goal
 
 -- t: the table so far
-pub record Made (seeds : List Seed) (count : ℕ) (table : List Raw) (n i : ℕ) : Type 0 where
+pub record Made (seeds : List Seed) (table : List Raw) (n i : ℕ) : Type 0 where
   pub t : List Raw
   pub placed : table ≡ places t
   pub counted : n ≡ length t
   pub few : n ≤ i
-  pub within : i ≤ count
-  pub long : length (take count seeds) ≡ count
-  pub rest : seeded (drop i (take count seeds)) t ≡ seeded (take count seeds) []
+  pub rest : seeded (drop i seeds) t ≡ seeded seeds []
 
-abbrev pub invariant-loop-i : goal.invariant-loop-i
-invariant-loop-i l = Made l.seeds l.count l.table l.n l.i
-
-abbrev pub decreases-loop-i : goal.decreases-loop-i
-decreases-loop-i l = l.count - l.i
+abbrev pub invariant-loop-s : goal.invariant-loop-s
+invariant-loop-s l = Made (take l.count l.fn.seeds) l.table l.n l.s-index

@@ -1,8 +1,9 @@
 -- `host::by_value::meet` meets its contract: by its kind a request is the call of that name, or one step alone.
+use Rattle.std.specs.Prelude.{Ok}
+use Rattle.basics.specs.Answers.{all_done, beside}
 use mathlib.Core.Path.{◌≡◌, refl, sym, ap, ◌∙◌, subst}
 use mathlib.Core.List.{List}
 use Prim.Native.Nat.{ℕ}
-use Rattle.basics.specs.declared.Answer.TheVariants.{Done as AllDone}
 use Rattle.flash.specs.declared.Plan.{Plan}
 use Rattle.flash.specs.Run.{Stepped}
 use Rattle.records.specs.declared.Log.{Log}
@@ -18,14 +19,14 @@ use Rattle.host.proofs.by_value.meet.Goals as goal
 
 -- a plan of which nothing is used, beside the log as it came
 nothing-done : (image : List ℕ) (log : Log) (plan : Plan) (u : Used) → u ≡ record { plan = plan; programmed = 0; erased = 0 }
-    → (r : Done) → r ≡ answered_of AllDone 0 log u → ShowsDone (refused AllDone log (flash_of image plan)) r image
-nothing-done image log plan u unused r e = record { answered = e ∙ ap (λ (x : Used). answered_of AllDone 0 log x) unused; left = refl }
+    → (r : Done) → r ≡ answered_of (Ok 0) log u → ShowsDone (refused all_done log (flash_of image plan)) r image
+nothing-done image log plan u unused r e = record { answered = e ∙ ap (λ (x : Used). answered_of (Ok 0) log x) unused; left = refl }
 
 -- a step's answer, beside the log as it came
-step-done : (o : Stepped) (s : Step) (left : List ℕ) → ShowsStep o s left → (log : Log) (r : Done) → r ≡ answered_of s.answer 0 log s.used
+step-done : (o : Stepped) (s : Step) (left : List ℕ) → ShowsStep o s left → (log : Log) (r : Done) → r ≡ answered_of (beside s.answer 0) log s.used
     → ShowsDone (step_outcome log o) r left
 step-done o s left shows log r e =
-    record { answered = e ∙ ap (λ (x : Step). answered_of x.answer 0 log x.used) shows.shown; left = shows.left }
+    record { answered = e ∙ ap (λ (x : Step). answered_of (beside x.answer 0) log x.used) shows.shown; left = shows.left }
 
 pub returns-in-Nothing : goal.returns-in-Nothing
 returns-in-Nothing c =

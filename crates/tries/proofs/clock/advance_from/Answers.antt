@@ -4,7 +4,7 @@ use mathlib.Core.Bool.{Bool}
 use Prim.Native.Nat.{◌+◌}
 use borrow.Author.Tests.{eq-eqb, ne_eqb}
 use Rattle.basics.specs.Choice.{pick}
-use Rattle.basics.specs.declared.Answer.TheVariants.{WriteError}
+use Rattle.basics.specs.declared.Refusal.TheVariants.{WriteError}
 use Rattle.ids.specs.Ids.{lamport}
 use Rattle.codec.specs.declared.Raw.{Raw}
 use Rattle.bodies.specs.Bodies.{value_record}
@@ -17,7 +17,7 @@ pub returns-then-most-eq-LAMPORT_MAX : goal.returns-then-most-eq-LAMPORT_MAX
 unfolding advance_from
 returns-then-most-eq-LAMPORT_MAX c =
     let by : Bool → Decision = λ b. let a = c.args in pick b (refuse WriteError) (write a.room (value_record lamport (a.most + 1)) (a.most + 1)) in
-    c.answers.ensures ∙ sym (ap by (eq-eqb c.args.most lamport_max c.if-most-eq-LAMPORT_MAX.true))
+    sym (ap by (eq-eqb c.args.most lamport_max c.if-most-eq-LAMPORT_MAX.true))
 
 pub returns : goal.returns
 unfolding advance_from

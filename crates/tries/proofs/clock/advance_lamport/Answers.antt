@@ -1,43 +1,36 @@
 -- `tries::clock::advance_lamport` meets its contract.
-use mathlib.Core.Path.{◌≡◌, ap, ◌∙◌}
 use mathlib.Core.Bool.{Bool, true}
-use Prim.Native.Nat.{ℕ}
-use lib.ListN.{length}
-use Rattle.ids.specs.Ids.{value_tag, lamport}
-use Rattle.codec.specs.declared.OptRaw.{OptRaw}
-use Rattle.flash.specs.Image.{sectors_in}
+use mathlib.Core.Path.{refl}
+use Rattle.std.proofs.Common.{rules}
+use Rattle.std.specs.Prelude.{Option}
+use Rattle.codec.specs.declared.Raw.{Raw}
 use Rattle.records.proofs.LogsOwned.{whole-log}
-use Rattle.reads.specs.Entering.{entry_of}
-use Rattle.decisions.proofs.OutcomesCalls.{call-ready, call_meets}
-use Rattle.tries.specs.Tries.{advance_of}
-use Rattle.tries.specs.Tries.{seen_of, advance_decision, advance_from}
+use Rattle.ids.specs.Ids.{value_tag, lamport}
+use Rattle.decisions.proofs.OutcomesCalls.{Steps, call-ready, call_meets}
+use Rattle.tries.specs.Tries.{seen_of, advance_decision, advance_of}
 use Rattle.tries.proofs.TriesKeyed.{advance_keyed}
 use Rattle.tries.proofs.clock.advance_lamport.Goals as goal
+use Rattle.tries.proofs.clock.advance_lamport.Goals.{After-unused}
+
+steps : (c : After-unused)
+    → Steps c.args.image.now c.args.log c.args.plan true value_tag lamport (λ (held : Option Raw) (room : Bool). advance_decision held room c.args.seen)
+    c.sectors-n.result c.unused.result c.map-decided.result
+steps c =
+    record {
+      sure = true;
+      entry = c.enter-entry.result;
+      counted = c.sectors-n.ensures;
+      surely = refl;
+      fresh = c.unused.ensures;
+      entering = c.enter-entry.ensures;
+      deciding = search rules;
+    }
 
 pub perform-requires : goal.perform-requires
 perform-requires c =
-    let is-entry : let a =
-    c.args in c.enter-e.result ≡ entry_of (sectors_in (length a.image.now)) a.log true value_tag lamport = let a = c.args in c.enter-e.ensures
-    ∙ ap (λ (n : ℕ). entry_of n a.log true value_tag lamport) c.sectors-n.ensures in
     let a = c.args in
-    let x = c.enter-e.result in
-    call-ready a.image.now a.log a.plan true value_tag lamport x is-entry
-    (λ (held : OptRaw) (room : Bool). advance_decision held room a.seen) c.sectors-n.result c.unused.result
-    c.advance_from-d.result
-    c.sectors-n.ensures c.unused.ensures
-    (c.advance_from-d.ensures ∙ ap (λ (m : ℕ). advance_from m c.enter-e.result.room) c.larger.ensures)
-    (whole-log a.log c.well_formed.1.0) (advance_keyed (seen_of x.held a.seen) x.room)
+    call-ready (steps (goal.at.perform-requires c).After-unused) (whole-log a.log c.well_formed.1.0) (λ held room. advance_keyed (seen_of held a.seen) room)
 
 pub returns : goal.returns
 unfolding advance_of
-returns c =
-    let is-entry : let a =
-    c.args in c.enter-e.result ≡ entry_of (sectors_in (length a.image.now)) a.log true value_tag lamport = let a = c.args in c.enter-e.ensures
-    ∙ ap (λ (n : ℕ). entry_of n a.log true value_tag lamport) c.sectors-n.ensures in
-    let a = c.args in
-    call_meets a.image.now a.log a.plan true value_tag lamport c.enter-e.result is-entry
-    (λ (held : OptRaw) (room : Bool). advance_decision held room a.seen) c.sectors-n.result c.unused.result
-    c.advance_from-d.result
-    c.sectors-n.ensures c.unused.ensures
-    (c.advance_from-d.ensures ∙ ap (λ (m : ℕ). advance_from m c.enter-e.result.room) c.larger.ensures)
-    c.perform.result c.perform.new.image c.perform.ensures
+returns c = call_meets (steps (goal.at.returns c).After-unused) c.perform.result c.perform.new.image c.perform.ensures

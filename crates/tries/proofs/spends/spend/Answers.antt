@@ -1,53 +1,35 @@
 -- `tries::spends::spend` meets its contract.
-use mathlib.Core.Path.{◌≡◌, ap, ap₂, ◌∙◌}
 use mathlib.Core.Bool.{Bool}
-use Prim.Native.Nat.{ℕ}
-use lib.ListN.{length}
-use Rattle.ids.specs.declared.CounterState.{CounterState}
-use Rattle.ids.specs.Ids.{counter_tag, is_credential}
-use Rattle.codec.specs.declared.OptRaw.{OptRaw}
-use Rattle.flash.specs.Image.{sectors_in}
+use Rattle.std.proofs.Common.{rules}
+use Rattle.std.specs.Prelude.{Option}
+use Rattle.codec.specs.declared.Raw.{Raw}
 use Rattle.records.proofs.LogsOwned.{whole-log}
-use Rattle.reads.specs.Entering.{entry_of}
-use Rattle.decisions.proofs.OutcomesCalls.{call-ready, call_meets}
-use Rattle.tries.specs.Tries.{spend_of}
-use Rattle.tries.specs.Tries.{start_of, spend_decision, spend_from}
+use Rattle.ids.specs.Ids.{counter_tag, is_credential}
+use Rattle.decisions.proofs.OutcomesCalls.{Steps, call-ready, call_meets}
+use Rattle.tries.specs.Tries.{start_of, spend_decision, spend_of}
 use Rattle.tries.proofs.TriesKeyed.{spend-keyed}
 use Rattle.tries.proofs.spends.spend.Goals as goal
+use Rattle.tries.proofs.spends.spend.Goals.{After-unused}
+
+steps : (c : After-unused)
+    → Steps c.args.image.now c.args.log c.args.plan (is_credential c.args.credential) counter_tag c.args.credential (λ (held : Option Raw) (room : Bool). spend_decision held room c.args.credential c.args.current)
+    c.sectors-n.result c.unused.result c.map-decided.result
+steps c =
+    record {
+      sure = c.is_credential-known.result;
+      entry = c.enter-entry.result;
+      counted = c.sectors-n.ensures;
+      surely = c.is_credential-known.ensures;
+      fresh = c.unused.ensures;
+      entering = c.enter-entry.ensures;
+      deciding = search rules;
+    }
 
 pub perform-requires : goal.perform-requires
 perform-requires c =
-    let is-entry : let a =
-    c.args in c.enter-e.result
-    ≡ entry_of (sectors_in (length a.image.now)) a.log (is_credential a.credential) counter_tag a.credential = let a = c.args in
-    c.enter-e.ensures
-    ∙ ap₂ (λ (n : ℕ) (known : Bool). entry_of n a.log known counter_tag a.credential) c.sectors-n.ensures
-    c.is_credential.ensures in
-    let s = c in
-    let a = s.args in
-    let x = c.enter-e.result in
-    call-ready a.image.now a.log a.plan (is_credential a.credential) counter_tag a.credential x is-entry
-    (λ (held : OptRaw) (room : Bool). spend_decision held room a.credential a.current) c.sectors-n.result
-    c.unused.result c.spend_from-d.result
-    c.sectors-n.ensures c.unused.ensures
-    (c.spend_from-d.ensures
-    ∙ ap (λ (s : CounterState). spend_from s c.enter-e.result.room a.credential) c.start.ensures)
-    (whole-log a.log s.well_formed.1.0) (spend-keyed (start_of x.held a.current) x.room a.credential)
+    let a = c.args in
+    call-ready (steps (goal.at.perform-requires c).After-unused) (whole-log a.log c.well_formed.1.0) (λ held room. spend-keyed (start_of held a.current) room a.credential)
 
 pub returns : goal.returns
 unfolding spend_of
-returns c =
-    let is-entry : let a =
-    c.args in c.enter-e.result
-    ≡ entry_of (sectors_in (length a.image.now)) a.log (is_credential a.credential) counter_tag a.credential = let a = c.args in
-    c.enter-e.ensures
-    ∙ ap₂ (λ (n : ℕ) (known : Bool). entry_of n a.log known counter_tag a.credential) c.sectors-n.ensures
-    c.is_credential.ensures in
-    let a = c.args in
-    call_meets a.image.now a.log a.plan (is_credential a.credential) counter_tag a.credential c.enter-e.result is-entry
-    (λ (held : OptRaw) (room : Bool). spend_decision held room a.credential a.current) c.sectors-n.result
-    c.unused.result c.spend_from-d.result
-    c.sectors-n.ensures c.unused.ensures
-    (c.spend_from-d.ensures
-    ∙ ap (λ (s : CounterState). spend_from s c.enter-e.result.room a.credential) c.start.ensures)
-    c.perform.result c.perform.new.image c.perform.ensures
+returns c = call_meets (steps (goal.at.returns c).After-unused) c.perform.result c.perform.new.image c.perform.ensures
