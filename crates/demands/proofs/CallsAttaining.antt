@@ -18,6 +18,8 @@ use Rattle.records.specs.Logs.{log_of, records_of}
 use Rattle.sectors.specs.Commits.{Written, commit_first}
 use Rattle.sectors.specs.Appends.{append_of}
 use Rattle.decisions.specs.declared.Decision.{Decision}
+use Rattle.decisions.specs.declared.Decision.TheVariants.{Refuse, Give, Write}
+use Rattle.decisions.specs.Decisions.{writes_record, record_in}
 use Rattle.decisions.specs.Outcomes.{Outcome, flash_of}
 use Rattle.decisions.specs.Performing.{written_outcome, appended, performed, formatted}
 use Rattle.demands.specs.Healthy.{Healthy, healthy}
@@ -74,17 +76,12 @@ module _ (image : List ℕ) (log : Log) (i : Inv image log) where
       (append_of n s seq head log.next_seq r (joined r (records_of log)))
       (append_reaches n s seq r (records_of log) w log.next_seq image head (here (Active s seq head) e))
 
-  pub performed-attains : (d : Decision) → (d.write ≡ true → Writable d.rec (records_of log))
+  pub performed-attains : (d : Decision) → (writes_record d ≡ true → Writable (record_in d) (records_of log))
       → Attains image (decided_table d log) (performed d n log)
   unfolding performed
-  performed-attains d sound = go d.write refl
-    where
-      go : (b : Bool) → d.write ≡ b → Attains image (pick b (holding (joined d.rec (records_of log))) (table_of log))
-          (λ (f : Flash).
-          pick b (appended log.state n d.rec d.value log f)
-          (record { answer = d.answer; value = d.value; log = log; flash = f }))
-      go true e = appended-attains log.state refl d.rec d.value (sound e)
-      go false e = inl (λ f j on h. refl)
+  performed-attains (Refuse x) sound = inl (λ f j on h. refl)
+  performed-attains (Give value) sound = inl (λ f j on h. refl)
+  performed-attains (Write r value) sound = appended-attains log.state refl r value (sound refl)
 
   pub formatted-attains : log.state ≡ Unformatted → (t : List Raw) → Proper t → Attains image (holding t) (formatted t n log)
   formatted-attains e t proper =

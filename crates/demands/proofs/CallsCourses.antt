@@ -1,5 +1,9 @@
 -- The course of any call, with any arguments on any image, log and plan: a refusal, an answer without a write, an append, a format, or a
 -- first anchor.
+use Rattle.std.specs.Prelude.{Result, is_ok, Option, Err}
+use Rattle.basics.specs.declared.Refusal.{Refusal}
+use Rattle.demands.specs.Calls.{anchor_raw}
+use Rattle.basics.specs.Answers.{all_done, is_done, Answer}
 use mathlib.Core.Path.{◌≡◌, refl, sym, ap, subst, ◌∙◌}
 use mathlib.Core.Bool.{Bool, true, false, false≢true}
 use mathlib.Core.List.{List, []}
@@ -10,15 +14,12 @@ use lib.Dec.{eqb, leb}
 use lib.ListN.{length, take, length-take}
 use borrow.Author.Tests.{eqb-true, leb-true}
 use Rattle.basics.specs.Choice.{pick}
-use Rattle.basics.specs.Answers.{is_done}
-use Rattle.basics.specs.declared.Answer.{Answer}
-use Rattle.basics.specs.declared.Answer.TheVariants.{Done, NotFormatted, ReadError, WriteError}
+use Rattle.basics.specs.declared.Refusal.TheVariants.{NotFormatted, ReadError, WriteError}
 use Rattle.basics.proofs.ChoiceLaws.{first, by_test}
 use Rattle.ids.specs.declared.Anchor.{Anchor}
 use Rattle.ids.specs.Ids.{anchor_tag}
 use Rattle.codec.specs.declared.Raw.{Raw}
-use Rattle.codec.specs.declared.OptRaw.{OptRaw}
-use Rattle.bodies.specs.Bodies.{anchor_body, anchor_record}
+use Rattle.bodies.specs.Bodies.{anchor_body}
 use Rattle.bodies.proofs.BodiesRoundTrip.{anchor-made}
 use Rattle.flash.specs.declared.Plan.{Plan}
 use Rattle.flash.specs.Image.{sectors_in}
@@ -26,7 +27,7 @@ use Rattle.flash.specs.Run.{Flash}
 use Rattle.records.specs.declared.State.{State}
 use Rattle.records.specs.declared.State.TheVariants.{Unformatted, Failed, Active}
 use Rattle.records.specs.declared.Log.{Log}
-use Rattle.records.specs.Table.{limit, joined, has_room}
+use Rattle.records.specs.Table.{limit, joined, has_room, held_of}
 use Rattle.records.specs.Logs.{log_of, records_of}
 use Rattle.records.specs.Fitting.{log_fits, seq_max}
 use Rattle.sectors.specs.Sectors.{write_sector}
@@ -34,8 +35,9 @@ use Rattle.sectors.specs.Commits.{Written, sector_after, commit_from, commit_fir
 use Rattle.sectors.specs.Appends.{append_of}
 use Rattle.sectors.proofs.SectorsTurns.{after-within}
 use Rattle.decisions.specs.declared.Decision.{Decision}
-use Rattle.decisions.specs.Decisions.{when_active, anchor_decision}
-use Rattle.reads.specs.Entering.{entry_answer, held_of, room_for}
+use Rattle.decisions.specs.Decisions.{when_active, anchor_decision, record_in, reply_in}
+use Rattle.decisions.proofs.PerformingLaws.{performed-writes}
+use Rattle.reads.specs.Entering.{entry_answer, room_for}
 use Rattle.reads.proofs.EnteringLaws.{let_in_by}
 use Rattle.decisions.specs.declared.seeds.Seed.{Seed}
 use Rattle.decisions.specs.Seeds.{all_known, seeds_known, seed_table}
@@ -95,7 +97,7 @@ module _ (image : List ℕ) (log : Log) (plan : Plan) (L : Seen → Type 0) wher
 
   pub data Course : Outcome → Type 0 where
     refusal : (a : Answer) → is_done a ≡ false → Course (refused a log f)
-    given : (value : ℕ) → Course (record { answer = Done; value = value; log = log; flash = f })
+    given : (value : ℕ) → Course (record { answer = all_done; value = value; log = log; flash = f })
     appends : log_fits n log ≡ true → (s seq head : ℕ) → log.state ≡ Active s seq head → (r : Raw) (value : ℕ) → has_room limit r t ≡ true
         → Course (written_outcome (append_of n s seq head next r (joined r t) f) value (joined r t) t)
     formats : log_fits n log ≡ true → 0 < n → log.state ≡ Unformatted → (new : List Raw) → length new ≤ 8
@@ -117,18 +119,18 @@ module _ (image : List ℕ) (log : Log) (plan : Plan) (L : Seen → Type 0) wher
   module _ (fits : log_fits n log ≡ true) (r : Raw) (Q : Type 0) (free : Bool) (room : free ≡ true → has_room limit r t ≡ true) where
     active_course : (s seq head : ℕ) → log.state ≡ Active s seq head → (d : Decision) → Decided free r Q d → Course (performed d n log f)
     unfolding performed
-    active_course s seq head e d (refuses a k) = refusal a k
+    active_course s seq head e d (refuses x) = refusal (Err x) refl
     active_course s seq head e d (gives value) = given value
     active_course s seq head e d (writes value k q) =
         subst (λ (z : State). Course (appended z n r value log f)) (sym e) (appends fits s seq head e r value (room k))
 
     performed_course : (z : State) → log.state ≡ z → (d : Decision) → Decided free r Q d → Course (performed (when_active z d) n log f)
     unfolding performed
-    performed_course Unformatted e d made = refusal NotFormatted refl
-    performed_course Failed e d made = refusal ReadError refl
+    performed_course Unformatted e d made = refusal (Err NotFormatted) refl
+    performed_course Failed e d made = refusal (Err ReadError) refl
     performed_course (Active s seq head) e d made = active_course s seq head e d made
 
-  keyed_course : (typed : Type 0) (known : Bool) (tag id : ℕ) (d : OptRaw → Bool → Decision) (r : List Raw → Raw) → Decides typed tag id d r
+  keyed_course : (typed : Type 0) (known : Bool) (tag id : ℕ) (d : Option Raw → Bool → Decision) (r : List Raw → Raw) → Decides typed tag id d r
       → Course (entered image log plan known (decided tag id d))
   keyed_course typed known tag id d r k =
       entered_course known (decided tag id d)
@@ -151,8 +153,8 @@ module _ (image : List ℕ) (log : Log) (plan : Plan) (L : Seen → Type 0) wher
       go fits some few Unformatted e =
           subst (λ (z : State). Course (written_outcome (commit_first n (seed_table seeds count) z next f) 0 (seed_table seeds count) []))
           (sym e) (formats fits some e (seed_table seeds count) few)
-      go fits some few Failed e = refusal WriteError refl
-      go fits some few (Active s seq head) e = refusal WriteError refl
+      go fits some few Failed e = refusal (Err WriteError) refl
+      go fits some few (Active s seq head) e = refusal (Err WriteError) refl
 
   -- ---- put_anchor
   module _ (new : Anchor) (may : is_first new ≡ true → log.state ≡ Unformatted → LeavesEmpty) where
@@ -164,28 +166,16 @@ module _ (image : List ℕ) (log : Log) (plan : Plan) (L : Seen → Type 0) wher
         → Course (performed (when_active emptied.state (made [])) n (log_of emptied.state emptied.next []) emptied.flash)
     unfolding performed
     first_course fits some e firstly d =
-        let fresh = commit_fresh n n n 0 [] WriteError Unformatted next f some refl d in
+        let fresh = commit_fresh n n n 0 [] (Err WriteError) Unformatted next f some refl d in
         let zero-seq = eqb-true new.head_seq 0 (first (eqb new.head_seq 0) (eqb new.head_slot 0) firstly) in
-        let writing = anchor-first-writes new (ap is_done (anchor-made new (omega arith))) in
+        let writing = anchor-first-writes new (ap (λ (m : Result Raw Refusal). is_ok m) (anchor-made new (omega arith))) in
         subst (λ (z : State). Course (performed (when_active z (made [])) n (log_of z emptied.next []) emptied.flash)) (sym fresh.state-is)
-        (subst
-        (λ (b : Bool).
-        Course
-        (pick b
-        (appended (Active fresh.sector fresh.seq 1) n (made []).rec (made []).value
-        (log_of (Active fresh.sector fresh.seq 1) emptied.next []) emptied.flash)
-        (record {
-          answer = (made []).answer;
-          value = (made []).value;
-          log = log_of (Active fresh.sector fresh.seq 1) emptied.next [];
-          flash = emptied.flash;
-        })))
-        (sym writing.0)
-        (anchors (may firstly e) fits some e d fresh.sector fresh.seq fresh.within fresh.state-is (made []).rec (made []).value))
+        (subst Course (sym (performed-writes (made []) writing.0 n (log_of (Active fresh.sector fresh.seq 1) emptied.next []) emptied.flash))
+        (anchors (may firstly e) fits some e d fresh.sector fresh.seq fresh.within fresh.state-is (record_in (made [])) (reply_in (made []))))
 
     anchored_course : 0 < n → log_fits n log ≡ true → (z : State) → log.state ≡ z → Course (anchored z new n log f)
     unfolding anchored_first room_for
-    anchored_course some fits Unformatted e = by_test Course (is_first new) _ _ (λ k. by-format k) (λ _. refusal NotFormatted refl)
+    anchored_course some fits Unformatted e = by_test Course (is_first new) _ _ (λ k. by-format k) (λ _. refusal (Err NotFormatted) refl)
       where
         o : State → Outcome
         o z = written_outcome (commit_first n [] z next f) 0 [] []
@@ -200,10 +190,10 @@ module _ (image : List ℕ) (log : Log) (plan : Plan) (L : Seen → Type 0) wher
             subst (λ (u : List Raw). Course (anchor_call new n (log_of emptied.state emptied.next u) emptied.flash))
             (sym (ap (λ (b : Bool). pick b [] []) d)) (first_course fits some e k d))
             (λ d. formats fits some e [] (omega arith)))
-    anchored_course some fits Failed e = refusal ReadError refl
+    anchored_course some fits Failed e = refusal (Err ReadError) refl
     anchored_course some fits (Active s seq head) e =
         performed_course fits (record { tag = anchor_tag; id = 0; body = anchor_body new })
-        ((anchor_record new).raw ≡ record { tag = anchor_tag; id = 0; body = anchor_body new }) (room_for anchor_tag 0 t) (λ k. k)
+        (anchor_raw new ≡ record { tag = anchor_tag; id = 0; body = anchor_body new }) (room_for anchor_tag 0 t) (λ k. k)
         log.state refl (made t)
         (anchor-decided (held_of anchor_tag 0 t) (room_for anchor_tag 0 t) new)
 

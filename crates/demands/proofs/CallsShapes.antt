@@ -1,4 +1,5 @@
 -- The kinds of calls. Five are alike: the tests, then what is decided on the record of one key. put_anchor and format stand apart.
+use Rattle.std.specs.Prelude.{Option}
 use mathlib.Core.Path.{◌≡◌}
 use mathlib.Core.Bool.{Bool, true}
 use mathlib.Core.List.{List}
@@ -7,15 +8,14 @@ use Rattle.ids.specs.declared.Anchor.{Anchor}
 use Rattle.ids.specs.Ids.{counter_tag, value_tag, lamport, is_credential, is_value}
 use Rattle.ids.specs.Counters.{one_more, reset_of}
 use Rattle.codec.specs.declared.Raw.{Raw}
-use Rattle.codec.specs.declared.OptRaw.{OptRaw}
 use Rattle.bodies.specs.Bodies.{counter_record, value_record}
 use Rattle.flash.specs.declared.Plan.{Plan}
 use Rattle.records.specs.declared.State.{State}
 use Rattle.records.specs.declared.Log.{Log}
-use Rattle.records.specs.Table.{limit, has_room}
+use Rattle.records.specs.Table.{limit, has_room, held_of}
 use Rattle.decisions.specs.declared.Decision.{Decision}
 use Rattle.decisions.specs.Decisions.{put_decision, value_decision}
-use Rattle.reads.specs.Entering.{held_of, room_for}
+use Rattle.reads.specs.Entering.{room_for}
 use Rattle.decisions.specs.declared.seeds.Seed.{Seed}
 use Rattle.decisions.specs.Outcomes.{Outcome, entered}
 use Rattle.decisions.specs.Performing.{decided}
@@ -26,7 +26,7 @@ use Rattle.demands.specs.Calls.{Call, put, put-value, put-anchor, format, spend,
 use Rattle.demands.specs.Calls.{NoEffect, record_of, appends_to}
 use Rattle.demands.specs.Demand1.{known_in, by_state, state_number}
 use Rattle.demands.specs.Figures.{decision_of}
-use Rattle.demands.proofs.CallsDeciding.{Decided, put-decided, value-decided, held-blank, Sound, put-sound, value-sound}
+use Rattle.demands.proofs.CallsDeciding.{Decided, put-decided, value-decided, Sound, put-sound, value-sound}
 use Rattle.demands.proofs.CallsTrying.{spend-decided, set_decided, advance_decided, spend-sound, set-sound, advance_sound}
 
 -- all that the statements say of a call
@@ -53,7 +53,7 @@ shape_of c = record {
 }
 
 -- a call that decides on the record of a key, and writes r where it writes
-abbrev pub keyed : Type 0 → Bool → (tag id : ℕ) → (OptRaw → Bool → Decision) → (List Raw → Raw) → Shape
+abbrev pub keyed : Type 0 → Bool → (tag id : ℕ) → (Option Raw → Bool → Decision) → (List Raw → Raw) → Shape
 keyed typed known tag id d r = record {
   typed = typed;
   known = known;
@@ -66,7 +66,7 @@ keyed typed known tag id d r = record {
 }
 
 -- what is known of its decision: whatever the log holds, it writes r or nothing, and r only where there is room for it; Q holds then
-pub record Decides (typed : Type 0) (tag id : ℕ) (d : OptRaw → Bool → Decision) (r : List Raw → Raw) : Type 1 where
+pub record Decides (typed : Type 0) (tag id : ℕ) (d : Option Raw → Bool → Decision) (r : List Raw → Raw) : Type 1 where
   pub Q : List Raw → Type 0
   pub made : (t : List Raw) → Decided (room_for tag id t) (r t) (Q t) (d (held_of tag id t) (room_for tag id t))
   pub room : (t : List Raw) → room_for tag id t ≡ true → has_room limit (r t) t ≡ true
@@ -74,13 +74,13 @@ pub record Decides (typed : Type 0) (tag id : ℕ) (d : OptRaw → Bool → Deci
 
 -- what holds of each kind holds of every call
 pub by_kind : (P : Shape → Type 0)
-    → ((typed : Type 0) (known : Bool) (tag id : ℕ) (d : OptRaw → Bool → Decision) (r : List Raw → Raw) → Decides typed tag id d r
+    → ((typed : Type 0) (known : Bool) (tag id : ℕ) (d : Option Raw → Bool → Decision) (r : List Raw → Raw) → Decides typed tag id d r
     → P (keyed typed known tag id d r))
     → ((new : Anchor) → P (shape_of (put-anchor new))) → ((seeds : List Seed) (count : ℕ) → P (shape_of (format seeds count))) → (c : Call)
     → P (shape_of c)
 unfolding put_of put_value_of spend_of set_of advance_of room_for
 by_kind P key anchor seeded (put credential new) =
-    key _ (is_credential credential) counter_tag credential (λ (held : OptRaw) (room : Bool). put_decision held room credential new)
+    key _ (is_credential credential) counter_tag credential (λ (held : Option Raw) (room : Bool). put_decision held room credential new)
     (λ t. counter_record credential new)
     (record {
       Q = _;
@@ -90,10 +90,10 @@ by_kind P key anchor seeded (put credential new) =
           = λ typed. put-sound credential new typed.0 typed.1;
     })
 by_kind P key anchor seeded (put-value id new) =
-    key _ (is_value id) value_tag id (λ (held : OptRaw) (room : Bool). value_decision held room id new) (λ t. value_record id new)
+    key _ (is_value id) value_tag id (λ (held : Option Raw) (room : Bool). value_decision held room id new) (λ t. value_record id new)
     (record {
       Q = _;
-      made = λ t. value-decided (held_of value_tag id t) (room_for value_tag id t) id new (held-blank value_tag id t);
+      made = λ t. value-decided (held_of value_tag id t) (room_for value_tag id t) id new;
       room = λ t e. e;
       sound
           = λ typed. value-sound id new typed.0 typed.1;
@@ -101,7 +101,7 @@ by_kind P key anchor seeded (put-value id new) =
 by_kind P key anchor seeded (put-anchor new) = anchor new
 by_kind P key anchor seeded (format seeds count) = seeded seeds count
 by_kind P key anchor seeded (spend credential current) =
-    key _ (is_credential credential) counter_tag credential (λ (held : OptRaw) (room : Bool). spend_decision held room credential current)
+    key _ (is_credential credential) counter_tag credential (λ (held : Option Raw) (room : Bool). spend_decision held room credential current)
     (λ t. counter_record credential (one_more (start_of (held_of counter_tag credential t) current)))
     (record {
       Q = _;
@@ -111,7 +111,7 @@ by_kind P key anchor seeded (spend credential current) =
       sound = λ typed. spend-sound credential current typed.0 typed.1;
     })
 by_kind P key anchor seeded (set-tries credential tries) =
-    key _ (is_credential credential) counter_tag credential (λ (held : OptRaw) (room : Bool). set_decision held room credential tries)
+    key _ (is_credential credential) counter_tag credential (λ (held : Option Raw) (room : Bool). set_decision held room credential tries)
     (λ t. counter_record credential (reset_of (start_of (held_of counter_tag credential t) tries) tries))
     (record {
       Q = _;
@@ -120,7 +120,7 @@ by_kind P key anchor seeded (set-tries credential tries) =
       sound = λ typed. set-sound credential tries typed.0 typed.1;
     })
 by_kind P key anchor seeded (advance_lamport latest) =
-    key _ true value_tag lamport (λ (held : OptRaw) (room : Bool). advance_decision held room latest)
+    key _ true value_tag lamport (λ (held : Option Raw) (room : Bool). advance_decision held room latest)
     (λ t. value_record lamport (seen_of (held_of value_tag lamport t) latest + 1))
     (record {
       Q = _;

@@ -1,4 +1,5 @@
 -- What every program and every erase keeps is kept by sectors, commits and appends, which are made of them: one induction for all such facts.
+use Rattle.std.specs.Prelude.{Err}
 use mathlib.Core.List.{List, [], ◌∷◌}
 use Prim.Native.Nat.{ℕ, zero, suc, ◌+◌, ◌≤◌, ◌<◌}
 use native.Mathlib.Omega.{arith}
@@ -7,9 +8,8 @@ use lib.ListN.{length}
 use borrow.Author.Tests.{eqb-false}
 use mathlib.Core.Path.{◌≡◌}
 use Rattle.records.specs.Fitting.{seq_max}
-use Rattle.basics.specs.Answers.{is_done}
-use Rattle.basics.specs.declared.Answer.{Answer}
-use Rattle.basics.specs.declared.Answer.TheVariants.{WriteError}
+use Rattle.basics.specs.Answers.{is_done, Answer}
+use Rattle.basics.specs.declared.Refusal.TheVariants.{WriteError}
 use Rattle.basics.proofs.ChoiceLaws.{by_test}
 use Rattle.codec.specs.declared.Raw.{Raw}
 use Rattle.codec.specs.Slots.{slot_of, header_slot}
@@ -87,11 +87,11 @@ module _ (R : Flash → Flash → Type 0) (stays : (f : Flash) → R f f) (follo
       → R f (append_of n s seq head next r t f).flash
   unfolding append_of
   append_trace n s seq head next r t f within high tried wipe may =
-      let o = tries_from 3 s head (slot_of seq r) WriteError f in
-      let one = tries_trace 3 s head (slot_of seq r) WriteError f high tried in
+      let o = tries_from 3 s head (slot_of seq r) (Err WriteError) f in
+      let one = tries_trace 3 s head (slot_of seq r) (Err WriteError) f high tried in
       by_test (λ (w : Written). R f w.flash) o.full _ _
       (λ _.
       follows f o.flash _ one
-      (commit_trace n s t wipe may n (sector_after n s) WriteError (Active s seq o.head) next o.flash
+      (commit_trace n s t wipe may n (sector_after n s) (Err WriteError) (Active s seq o.head) next o.flash
       (after-within n s within)))
       (λ _. one)

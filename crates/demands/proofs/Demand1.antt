@@ -1,4 +1,6 @@
 -- Demand 1: a call that fails a test is refused before anything else, and a write answers 0, 6 or 7 only. The calls that only read stand last.
+use Rattle.std.specs.Prelude.{Option, None, Result, Ok, Err}
+use Rattle.basics.specs.Answers.{all_done, refusal_number, number_of, is_done, Answer}
 use mathlib.Core.Path.{◌≡◌, refl, sym, ap, subst, ◌∙◌}
 use mathlib.Core.Bool.{Bool, true, false, false≢true}
 use mathlib.Core.List.{List, [], ◌∷◌}
@@ -8,10 +10,9 @@ use lib.ListN.{length}
 use borrow.Author.Tests.{eq-eqb}
 use Rattle.basics.specs.Choice.{pick}
 use Rattle.basics.specs.Lists.{same}
-use Rattle.basics.specs.Answers.{number_of, is_done}
-use Rattle.basics.specs.Says.{says_refused}
-use Rattle.basics.specs.declared.Answer.{Answer}
-use Rattle.basics.specs.declared.Answer.TheVariants.{Done, BadImage, BadLog, BadId, NotFormatted, WriteError}
+use Rattle.basics.specs.Says.{says_refused, option_says}
+use Rattle.basics.specs.declared.Refusal.{Refusal}
+use Rattle.basics.specs.declared.Refusal.TheVariants.{BadImage, BadLog, BadId, NotFormatted, WriteError}
 use Rattle.basics.proofs.ChoiceLaws.{by_test}
 use Rattle.codec.specs.declared.Raw.{Raw}
 use Rattle.codec.specs.Slots.{slot_of, header_slot}
@@ -27,16 +28,11 @@ use Rattle.records.specs.Fitting.{log_fits, seq_max}
 use Rattle.sectors.specs.Sectors.{on_done, write_records, write_sector}
 use Rattle.sectors.specs.Commits.{Written, sector_after, commit_from}
 use Rattle.sectors.specs.Appends.{SlotTries, tries_from, append_of}
-use Rattle.reads.specs.Entering.{entry_answer, held_of, room_for}
-use Rattle.reads.specs.declared.Counter.{Counter}
-use Rattle.reads.specs.declared.Counter.TheVariants as counter
-use Rattle.reads.specs.declared.Number.{Number}
-use Rattle.reads.specs.declared.Number.TheVariants as number
-use Rattle.reads.specs.declared.Anchored.TheVariants as anchored
+use Rattle.records.specs.Table.{held_of}
+use Rattle.reads.specs.Entering.{entry_answer, room_for}
 use Rattle.reads.proofs.EnteringLaws.{answer_no_image, answer_bad_log, answer_bad_id, answer-done, turned-away, taken_in}
-use Rattle.reads.specs.Reads.{counter_by, get_of, number_by, value_of, anchor_by}
-use Rattle.reads.specs.Reads.{anchor_of, told_of, told_refused, lamport_by, migration_by, needs_migration_of}
-use Rattle.reads.specs.Reads.{counter_says, number_says, anchored_says}
+use Rattle.reads.specs.Reads.{held_by, record_held, read_in, get_of, value_of, anchor_of, lamport_by, migration_by, needs_migration_of}
+use Rattle.bodies.specs.Bodies.{counter_in, value_in, anchor_in}
 use Rattle.decisions.specs.Outcomes.{Outcome, flash_of, refused, entered}
 use Rattle.ids.specs.declared.Anchor.{Anchor}
 use Rattle.ids.specs.Ids.{counter_tag, value_tag, anchor_tag, lamport as lamport_id, is_credential, is_value}
@@ -48,11 +44,11 @@ use Rattle.decisions.specs.Decisions.{when_active}
 use Rattle.decisions.specs.Seeds.{seeds_known, seed_table}
 use Rattle.decisions.specs.Performing.{performed, decided, formatted}
 use Rattle.counter_log.specs.Calls.{is_first, anchored_first, anchored as anchored_on, format_on, put_anchor_of, format_of}
-use Rattle.tries.specs.Tries.{tries_left_by, tries_left_says, load_by}
+use Rattle.tries.specs.Tries.{tries_left_by, load_by}
 use Rattle.demands.specs.Calls.{Call, outcome_of, NoEffect}
 use Rattle.demands.specs.Seen.{Seen}
 use Rattle.demands.specs.Demand1.{leaves_all, known_in, by_state, state_number, RefusedWith, Refuses, Asked, get, get_value, remaining, anchor}
-use Rattle.demands.specs.Demand1.{lamport, needs-migration, load, reply_of, says_number, told_says, says_of, turned_away, known_to, state_reply, RefusesAsked}
+use Rattle.demands.specs.Demand1.{lamport, needs-migration, load, reply_of, says_with, told_says, says_of, turned_away, known_to, state_reply, RefusesAsked}
 use Rattle.demands.specs.Demand1.{Demand1Calls, Demand1Asked, Demand1Open}
 use Rattle.demands.proofs.CallsCourses.{Course, refusal, given, appends, formats, anchors, call_course}
 use Rattle.demands.proofs.CallsShapes.{Shape, by_kind}
@@ -67,7 +63,7 @@ program-answers s k new f = go (program-outcome s k new f)
     go : {o : Stepped} → Programmed s k new f o → FromFlash o.answer
     go (program-refused h) = refl
     go (program-stopped e h) = refl
-    go (program-whole e h) = by_test FromFlash (same _ new) Done WriteError (λ _. refl) (λ _. refl)
+    go (program-whole e h) = by_test FromFlash (same _ new) all_done (Err WriteError) (λ _. refl) (λ _. refl)
 
 erase-answers : (s : ℕ) (f : Flash) → FromFlash (erase s f).answer
 erase-answers s f = go (erase-outcome s f)
@@ -119,11 +115,11 @@ tries-answers (suc m) s head bytes last f h =
 append-answers : (n s seq head next : ℕ) (r : Raw) (t : List Raw) (f : Flash) → FromFlash (append_of n s seq head next r t f).answer
 unfolding append_of
 append-answers n s seq head next r t f =
-    by_test (λ (w : Written). FromFlash w.answer) (tries_from 3 s head (slot_of seq r) WriteError f).full _ _
+    by_test (λ (w : Written). FromFlash w.answer) (tries_from 3 s head (slot_of seq r) (Err WriteError) f).full _ _
     (λ _.
-    commit-answers n n s (sector_after n s) t WriteError (Active s seq (tries_from 3 s head (slot_of seq r) WriteError f).head) next
-    (tries_from 3 s head (slot_of seq r) WriteError f).flash refl)
-    (λ _. tries-answers 3 s head (slot_of seq r) WriteError f refl)
+    commit-answers n n s (sector_after n s) t (Err WriteError) (Active s seq (tries_from 3 s head (slot_of seq r) (Err WriteError) f).head) next
+    (tries_from 3 s head (slot_of seq r) (Err WriteError) f).flash refl)
+    (λ _. tries-answers 3 s head (slot_of seq r) (Err WriteError) f refl)
 
 -- ---- the calls that can write
 module _ (image : List ℕ) (log : Log) (plan : Plan) where
@@ -140,7 +136,7 @@ module _ (image : List ℕ) (log : Log) (plan : Plan) where
   course_unchanged L o (appends fits s seq head k r value room) e =
       absurd (false≢true (sym (append-answers n s seq head log.next_seq r _ f) ∙ e))
   course_unchanged L o (formats fits some k new few) e =
-      absurd (false≢true (sym (commit-answers n n n 0 new WriteError Unformatted log.next_seq f refl) ∙ e))
+      absurd (false≢true (sym (commit-answers n n n 0 new (Err WriteError) Unformatted log.next_seq f refl) ∙ e))
   course_unchanged L o (anchors may fits some k d s seq within z r value) e = absurd (false≢true (sym (append-answers n s seq 1 _ r _ _) ∙ e))
 
   -- refused with a number, and by which answer
@@ -191,7 +187,7 @@ module _ (image : List ℕ) (log : Log) (plan : Plan) where
     anchor-not-ready new Unformatted e = go (is_first new) e
       where
         go : (b : Bool) → (pick {A = ℕ} b 0 4 ≡ 0 → ⊥)
-            → Refused (pick b 0 4) (pick b (anchored_first new n (formatted [] n log f)) (refused NotFormatted log f))
+            → Refused (pick b 0 4) (pick b (anchored_first new n (formatted [] n log f)) (refused (Err NotFormatted) log f))
         go true e = absurd (e refl)
         go false e = (refl, refl)
     anchor-not-ready new Failed e = (refl, refl)
@@ -214,9 +210,9 @@ module _ (image : List ℕ) (log : Log) (plan : Plan) where
 
   refuses-all : (c : Call) → Refuses c image log plan
   refuses-all c = record {
-    no_image = λ e. call-refuses c BadImage (answer_no_image n log (known_in c) e) refl;
-    bad_log = λ e k. call-refuses c BadLog (answer_bad_log n log (known_in c) e k) refl;
-    bad_id = λ e k z. call-refuses c BadId (answer_bad_id n log (known_in c) e k z) refl;
+    no_image = λ e. call-refuses c (Err BadImage) (answer_no_image n log (known_in c) e) refl;
+    bad_log = λ e k. call-refuses c (Err BadLog) (answer_bad_log n log (known_in c) e k) refl;
+    bad_id = λ e k z. call-refuses c (Err BadId) (answer_bad_id n log (known_in c) e k z) refl;
     not-ready = λ e k. call-not-ready e k c;
     unchanged = course_unchanged (NoEffect c log) (outcome_of c image log plan) (call_course image log plan c);
   }
@@ -225,28 +221,36 @@ pub demand_1_calls : Demand1Calls
 demand_1_calls c image log plan = refuses-all image log plan c
 
 -- ---- the calls that only read
+-- the record held of a key, and the answer 4
+abbrev Held : Type 0
+Held = Result (Option Raw) Refusal
+
+abbrev four : Held
+four = Err NotFormatted
+
 module _ (log : Log) where
   some-sectors : ◌≡◌ {A = ℕ} 16 0 → ⊥
   some-sectors e = false≢true (ap (λ (x : ℕ). eqb x 0) e)
 
   -- 2 and 3; load tells them from 4 and 5 by their numbers
-  asked_refused : (q : Asked) (a : Answer) → entry_answer 16 log (known_to q) ≡ a → is_done a ≡ false → leb 4 (number_of a) ≡ false
-      → says_of q (reply_of q log) ≡ turned_away q (number_of a)
-  unfolding get_of value_of anchor_of needs_migration_of
-  asked_refused (get credential) a e d low =
-      ap counter_says (turned-away counter_by counter.Refused log (is_credential credential) counter_tag credential a e d)
-  asked_refused (get_value id) a e d low = ap number_says (turned-away number_by number.Refused log (is_value id) value_tag id a e d)
-  asked_refused (remaining credential) a e d low =
-      ap (λ (x : Counter). tries_left_says (tries_left_by x))
-      (turned-away counter_by counter.Refused log (is_credential credential) counter_tag credential a e d)
-  asked_refused anchor a e d low = ap anchored_says (turned-away anchor_by anchored.Refused log true anchor_tag 0 a e d)
-  asked_refused lamport a e d low =
-      ap (λ (x : Number). told_says (lamport_by x)) (turned-away number_by number.Refused log true value_tag lamport_id a e d)
-  asked_refused needs-migration a e d low = ap told_says (turned-away migration_by told_refused log true anchor_tag 0 a e d)
-  asked_refused (load credential exists fresh) a e d low =
-      ap (λ (x : Counter). told_says (load_by exists fresh (tries_left_by x)))
-      (turned-away counter_by counter.Refused log (is_credential credential) counter_tag credential a e d)
-      ∙ ap (λ (b : Bool). told_says (pick b (told_of 0) (told_refused a))) low
+  asked_refused : (q : Asked) (r : Refusal) → entry_answer 16 log (known_to q) ≡ Err r → leb 4 (refusal_number r) ≡ false
+      → says_of q (reply_of q log) ≡ turned_away q (refusal_number r)
+  unfolding get_of value_of anchor_of record_held needs_migration_of
+  asked_refused (get credential) r e low =
+      ap (λ (x : Held). option_says (read_in counter_in x)) (turned-away (held_by four) Err log (is_credential credential) counter_tag credential r e)
+  asked_refused (get_value id) r e low =
+      ap (λ (x : Held). option_says (read_in value_in x)) (turned-away (held_by four) Err log (is_value id) value_tag id r e)
+  asked_refused (remaining credential) r e low =
+      ap (λ (x : Held). option_says (tries_left_by (read_in counter_in x)))
+      (turned-away (held_by four) Err log (is_credential credential) counter_tag credential r e)
+  asked_refused anchor r e low = ap (λ (x : Held). option_says (read_in anchor_in x)) (turned-away (held_by (Ok None)) Err log true anchor_tag 0 r e)
+  asked_refused lamport r e low =
+      ap (λ (x : Held). told_says 0 (lamport_by (read_in value_in x))) (turned-away (held_by four) Err log true value_tag lamport_id r e)
+  asked_refused needs-migration r e low = ap (told_says false) (turned-away migration_by Err log true anchor_tag 0 r e)
+  asked_refused (load credential exists fresh) r e low =
+      ap (λ (x : Held). told_says 0 (load_by exists fresh (tries_left_by (read_in counter_in x))))
+      (turned-away (held_by four) Err log (is_credential credential) counter_tag credential r e)
+      ∙ ap (λ (b : Bool). told_says 0 (pick b (Ok 0) (Err r))) low
 
   -- what is said of an Unformatted log, where that is a refusal, and of a Failed one
   state_says : {A : Type 0} {k : ℕ} (says : State → A) (away : ℕ → A) (z : State) → (by_state k 5 0 z ≡ 0 → ⊥) → says Unformatted ≡ away k
@@ -257,32 +261,35 @@ module _ (log : Log) where
 
   asked_not-ready : (q : Asked) → is_done (entry_answer 16 log (known_to q)) ≡ true → (state_reply q log.state ≡ 0 → ⊥)
       → says_of q (reply_of q log) ≡ turned_away q (state_reply q log.state)
-  unfolding get_of value_of anchor_of needs_migration_of
+  unfolding get_of value_of anchor_of record_held needs_migration_of
   asked_not-ready (get credential) e d =
-      ap counter_says (taken_in counter_by counter.Refused log (is_credential credential) counter_tag credential e)
-      ∙ state_says (λ (z : State). counter_says (counter_by z (held_of counter_tag credential (records_of log)))) says_refused log.state d refl refl
+      let held = held_of counter_tag credential (records_of log) in
+      ap (λ (x : Held). option_says (read_in counter_in x)) (taken_in (held_by four) Err log (is_credential credential) counter_tag credential e)
+      ∙ state_says (λ (z : State). option_says (read_in counter_in (held_by four z held))) says_refused log.state d refl refl
   asked_not-ready (get_value id) e d =
-      ap number_says (taken_in number_by number.Refused log (is_value id) value_tag id e)
-      ∙ state_says (λ (z : State). number_says (number_by z (held_of value_tag id (records_of log)))) says_refused log.state d refl refl
+      let held = held_of value_tag id (records_of log) in
+      ap (λ (x : Held). option_says (read_in value_in x)) (taken_in (held_by four) Err log (is_value id) value_tag id e)
+      ∙ state_says (λ (z : State). option_says (read_in value_in (held_by four z held))) says_refused log.state d refl refl
   asked_not-ready (remaining credential) e d =
-      ap (λ (x : Counter). tries_left_says (tries_left_by x))
-      (taken_in counter_by counter.Refused log (is_credential credential) counter_tag credential e)
-      ∙ state_says (λ (z : State). tries_left_says (tries_left_by (counter_by z (held_of counter_tag credential (records_of log))))) says_refused log.state d
-      refl refl
+      let held = held_of counter_tag credential (records_of log) in
+      ap (λ (x : Held). option_says (tries_left_by (read_in counter_in x)))
+      (taken_in (held_by four) Err log (is_credential credential) counter_tag credential e)
+      ∙ state_says (λ (z : State). option_says (tries_left_by (read_in counter_in (held_by four z held)))) says_refused log.state d refl refl
   asked_not-ready anchor e d =
-      ap anchored_says (taken_in anchor_by anchored.Refused log true anchor_tag 0 e)
-      ∙ state_says (λ (z : State). anchored_says (anchor_by z (held_of anchor_tag 0 (records_of log)))) says_refused log.state d refl refl
+      let held = held_of anchor_tag 0 (records_of log) in
+      ap (λ (x : Held). option_says (read_in anchor_in x)) (taken_in (held_by (Ok None)) Err log true anchor_tag 0 e)
+      ∙ state_says (λ (z : State). option_says (read_in anchor_in (held_by (Ok None) z held))) says_refused log.state d refl refl
   asked_not-ready lamport e d =
-      ap (λ (x : Number). told_says (lamport_by x)) (taken_in number_by number.Refused log true value_tag lamport_id e)
-      ∙ state_says (λ (z : State). told_says (lamport_by (number_by z (held_of value_tag lamport_id (records_of log))))) (λ (k : ℕ). says_number k 0) log.state d
-      refl refl
+      let held = held_of value_tag lamport_id (records_of log) in
+      ap (λ (x : Held). told_says 0 (lamport_by (read_in value_in x))) (taken_in (held_by four) Err log true value_tag lamport_id e)
+      ∙ state_says (λ (z : State). told_says 0 (lamport_by (read_in value_in (held_by four z held)))) (λ (k : ℕ). says_with k 0) log.state d refl refl
   asked_not-ready needs-migration e d = absurd (d refl)
   asked_not-ready (load credential exists fresh) e d = absurd (d refl)
 
   asked_all : (q : Asked) → RefusesAsked q log
   asked_all q = record {
-    bad_log = λ k. asked_refused q BadLog (answer_bad_log 16 log (known_to q) some-sectors k) refl refl;
-    bad_id = λ k z. asked_refused q BadId (answer_bad_id 16 log (known_to q) some-sectors k z) refl refl;
+    bad_log = λ k. asked_refused q BadLog (answer_bad_log 16 log (known_to q) some-sectors k) refl;
+    bad_id = λ k z. asked_refused q BadId (answer_bad_id 16 log (known_to q) some-sectors k z) refl;
     not-ready = λ k z. asked_not-ready q (ap is_done (answer-done 16 log (known_to q) some-sectors k z));
   }
 
@@ -293,9 +300,9 @@ demand_1_asked q log = asked_all log q
 pub demand_1_open : Demand1Open
 unfolding open_of
 demand_1_open image e =
-    let same : open_of image ≡ record { answer = BadImage; log = log_of Failed 1 [] } =
+    let same : open_of image ≡ record { answer = Err BadImage; log = log_of Failed 1 [] } =
     ap
     (λ (b : Bool).
-    pick b (record { answer = BadImage; log = log_of Failed 1 [] }) (record { answer = Done; log = log_from (scan_of 2 image) }))
+    pick b (record { answer = Err BadImage; log = log_of Failed 1 [] }) (record { answer = all_done; log = log_from (scan_of 2 image) }))
     (eq-eqb (sectors_in (length image)) 0 e) in
     (ap (λ (o : Opened). number_of o.answer) same, ap (λ (o : Opened). o.log) same)

@@ -7,11 +7,11 @@ use native.Mathlib.Omega.{arith}
 use lib.Dec.{T}
 use lib.ListN.{length, replicate}
 use lib.Pow.{are_bytes}
-use Rattle.basics.specs.Answers.{is_done}
-use Rattle.basics.specs.declared.Answer.{Answer}
+use Rattle.basics.specs.Answers.{is_done, Answer}
 use Rattle.flash.specs.Image.{slot_at, sector_at, with_slot, with_sector}
+use Rattle.flash.specs.Power.{units_in}
 use Rattle.flash.specs.Run.{Flash, Stepped, blanked, program, erase}
-use Rattle.flash.proofs.PowerLaws.{Short}
+use Rattle.flash.proofs.PowerLaws.{Short, charged-limited}
 use Rattle.flash.proofs.RunLaws.{Programmed, program-refused, program-stopped, program-whole, program-outcome, blank_lands, found-done}
 use Rattle.flash.proofs.RunLaws.{Erased, erase-refused, erase-stopped, erase-whole, erase-outcome, Dead, program-dead, erase-dead}
 use Rattle.demands.specs.Chance.{cut_at}
@@ -51,11 +51,11 @@ module _ (s k : ℕ) (new : List ℕ) (f : Flash) where
       go : {o : Stepped} → Programmed s k new f o → Ran s k new f o
       go (program-refused h) = refused (λ w. omega (arith, w.willing)) refl on refl
       go (program-stopped e h) =
-          stopped (short_ill f 16 h) refl (record { marked = refl; dead = (refl, refl) }) f.plan.units h.1
-          (ap (λ (l : List ℕ). with_slot s k l f.image) (landed-cut f.plan.units new (slot_at f.image s k) size bytes blank))
+          stopped (short_ill f 16 h) refl (record { marked = refl; dead = (refl, refl) }) (units_in f.plan) h.1
+          (ap (λ (l : List ℕ). with_slot s k l f.image) (landed-cut (units_in f.plan) new (slot_at f.image s k) size bytes blank))
       go (program-whole e h) =
           let whole = blank_lands new (slot_at f.image s k) size bytes blank in
-          done (λ w. record { endless = w.endless; erasing = w.erasing; willing = w.willing })
+          done (λ w. record { endless = charged-limited f.plan 16 ∙ w.endless; erasing = w.erasing; willing = w.willing })
           (ap is_done (found-done _ new whole)) on (ap (λ (l : List ℕ). with_slot s k l f.image) whole)
           (record { programmed = refl; erased = omega arith })
 
@@ -72,9 +72,9 @@ erase-wiped s f on = go (erase-outcome s f)
   where
     go : {o : Stepped} → Erased s f o → Wiped s f o
     go (erase-refused h) = refused (λ w. false≢true (sym w.erasing ∙ h)) refl on refl
-    go (erase-stopped e h) = stopped (short_ill f 4096 h) refl (record { marked = refl; dead = (refl, refl) }) f.plan.units h.1 refl
+    go (erase-stopped e h) = stopped (short_ill f 4096 h) refl (record { marked = refl; dead = (refl, refl) }) (units_in f.plan) h.1 refl
     go (erase-whole e h) =
-        done (λ w. record { endless = w.endless; erasing = w.erasing; willing = w.willing }) refl on refl
+        done (λ w. record { endless = charged-limited f.plan 4096 ∙ w.endless; erasing = w.erasing; willing = w.willing }) refl on refl
         (record { programmed = omega arith; erased = refl })
 
 -- ---- after a stop

@@ -1,4 +1,6 @@
 -- The figures of calls on a healthy flash, in any session.
+use Rattle.codec.specs.declared.Raw.{Raw}
+use Rattle.std.specs.Prelude.{Option}
 use mathlib.Core.Path.{◌≡◌, refl, sym, ap, subst, ◌∙◌}
 use mathlib.Core.Bool.{Bool, true, false≢true}
 use mathlib.Core.List.{List}
@@ -6,7 +8,6 @@ use Prim.Native.Nat.{ℕ}
 use native.Mathlib.Omega.{arith}
 use lib.ListN.{length}
 use Rattle.ids.specs.declared.Anchor.{Anchor}
-use Rattle.codec.specs.declared.OptRaw.{OptRaw}
 use Rattle.flash.specs.Image.{sectors_in}
 use Rattle.flash.specs.Run.{Flash}
 use Rattle.records.specs.declared.State.{State}
@@ -14,8 +15,9 @@ use Rattle.records.specs.declared.State.TheVariants.{Active}
 use Rattle.records.specs.declared.Log.{Log}
 use Rattle.records.specs.Logs.{records_of}
 use Rattle.decisions.specs.declared.Decision.{Decision}
-use Rattle.decisions.specs.Decisions.{when_active}
-use Rattle.reads.specs.Entering.{held_of, room_for}
+use Rattle.decisions.specs.Decisions.{when_active, writes_record, record_in}
+use Rattle.records.specs.Table.{held_of}
+use Rattle.reads.specs.Entering.{room_for}
 use Rattle.decisions.specs.declared.seeds.Seed.{Seed}
 use Rattle.decisions.specs.Seeds.{seeds_known, seed_table}
 use Rattle.decisions.specs.Outcomes.{Outcome, flash_of, entered}
@@ -62,7 +64,7 @@ module _ (image : List ℕ) (log : Log) (i : Inv image log) where
       let there = subst (λ (y : State). Agrees n image y log.next_seq (records_of log)) e i.agrees in
       omega (arith, there.found.placed.within)
 
-  keyed-is : (known : Bool) (tag id : ℕ) (d : OptRaw → Bool → Decision) → known ≡ true → (s seq head : ℕ) → log.state ≡ Active s seq head
+  keyed-is : (known : Bool) (tag id : ℕ) (d : Option Raw → Bool → Decision) → known ≡ true → (s seq head : ℕ) → log.state ≡ Active s seq head
       → entered image log healthy known (decided tag id d) ≡ performed (d (held_of tag id (records_of log)) (room_for tag id (records_of log))) n log f
   keyed-is known tag id d k s seq head e =
       entered_on image log healthy (active-some s seq head e) (inv-fits image log i) known (decided tag id d) k
@@ -77,20 +79,20 @@ module _ (image : List ℕ) (log : Log) (i : Inv image log) where
       ∙ ap (λ (z : State). anchored z new n log f) e
       ∙ ap (λ (z : State). performed (when_active z (decision_of (put-anchor new) (records_of log))) n log f) e
 
-  call-is : (c : Call) → known_in c ≡ true → (s seq head : ℕ) → log.state ≡ Active s seq head → (decision_of c (records_of log)).write ≡ true
+  call-is : (c : Call) → known_in c ≡ true → (s seq head : ℕ) → log.state ≡ Active s seq head → writes_record (decision_of c (records_of log)) ≡ true
       → outcome_of c image log healthy ≡ performed (decision_of c (records_of log)) n log f
   call-is =
       by_kind
       (λ (x : Shape).
-      x.known ≡ true → (s seq head : ℕ) → log.state ≡ Active s seq head → (x.decision (records_of log)).write ≡ true
+      x.known ≡ true → (s seq head : ℕ) → log.state ≡ Active s seq head → writes_record (x.decision (records_of log)) ≡ true
       → x.outcome image log healthy ≡ performed (x.decision (records_of log)) n log f)
       (λ typed known tag id d r m k s seq head e w. keyed-is known tag id d k s seq head e)
       (λ new k s seq head e w. anchor-is new s seq head e) (λ seeds count k s seq head e w. absurd (false≢true w))
 
   -- what it writes may be written
-  call_writable : (c : Call) → Typed c → (decision_of c (records_of log)).write ≡ true → Writable (decision_of c (records_of log)).rec (records_of log)
+  call_writable : (c : Call) → Typed c → writes_record (decision_of c (records_of log)) ≡ true → Writable (record_in (decision_of c (records_of log))) (records_of log)
   call_writable =
-      by_kind (λ (x : Shape). x.typed → (x.decision (records_of log)).write ≡ true → Writable (x.decision (records_of log)).rec (records_of log))
+      by_kind (λ (x : Shape). x.typed → writes_record (x.decision (records_of log)) ≡ true → Writable (record_in (x.decision (records_of log))) (records_of log))
       (λ typed known tag id d r m t e. writes_writable _ _ (records_of log) (m.sound t (records_of log) i.agrees.proper.whole e))
       (λ new t e. writes_writable _ _ (records_of log) (anchor-sound new t (records_of log) i.agrees.proper.whole e))
       (λ seeds count t e. absurd (false≢true e))

@@ -1,12 +1,11 @@
 -- What calls report on a healthy flash: "A healthy append reports 16 and 0; a healthy commit of r records 16 × (r + 1) and 4,096."
+use Rattle.basics.specs.Answers.{all_done, is_done}
 use mathlib.Core.Path.{◌≡◌, refl, sym, ap, ap₂, subst, ◌∙◌}
 use mathlib.Core.Bool.{Bool, true, false}
 use mathlib.Core.List.{List, []}
 use Prim.Native.Nat.{ℕ, ◌+◌, ◌*◌, ◌<◌}
 use lib.ListN.{length}
 use Rattle.basics.specs.Choice.{pick}
-use Rattle.basics.specs.Answers.{is_done}
-use Rattle.basics.specs.declared.Answer.TheVariants.{Done}
 use Rattle.codec.specs.declared.Raw.{Raw}
 use Rattle.flash.specs.Image.{sectors_in}
 use Rattle.flash.specs.Run.{Flash}
@@ -19,6 +18,8 @@ use Rattle.records.specs.Fitting.{seq_max}
 use Rattle.sectors.specs.Commits.{Written, sector_after, commit_first}
 use Rattle.sectors.specs.Appends.{append_of}
 use Rattle.decisions.specs.declared.Decision.{Decision}
+use Rattle.decisions.specs.Decisions.{writes_record, record_in, reply_in}
+use Rattle.decisions.proofs.PerformingLaws.{performed-writes}
 use Rattle.decisions.specs.Outcomes.{Outcome}
 use Rattle.decisions.specs.Performing.{written_outcome, appended, performed, formatted}
 use Rattle.demands.specs.Healthy.{Healthy}
@@ -29,7 +30,7 @@ use Rattle.demands.proofs.HealthyReaching.{Reached, append-reached, append_rotat
 
 -- done, with this value and log, for so many bytes, and the flash is as healthy as before
 pub record Succeeds (f : Flash) (value : ℕ) (log : Log) (p e : ℕ) (o : Outcome) : Type 0 where
-  pub answer : o.answer ≡ Done
+  pub answer : o.answer ≡ all_done
   pub value-is : o.value ≡ value
   pub log_is : o.log ≡ log
   pub used : Used p e f o.flash
@@ -61,35 +62,30 @@ module _ (f : Flash) (log : Log) (on : f.cut ≡ false) (i : Inv f.image log) (h
   here : (state : State) → log.state ≡ state → Agrees n f.image state next (records_of log)
   here state e = subst (λ (z : State). Agrees n f.image z next (records_of log)) e i.agrees
 
-  module _ (d : Decision) (writes : d.write ≡ true) (w : Writable d.rec (records_of log)) (s seq head : ℕ)
+  module _ (d : Decision) (writes : writes_record d ≡ true) (w : Writable (record_in d) (records_of log)) (s seq head : ℕ)
       (active : log.state ≡ Active s seq head) where
     abbrev new : List Raw
-    new = joined d.rec (records_of log)
+    new = joined (record_in d) (records_of log)
 
-    performed-is : performed d n log f ≡ written_outcome (append_of n s seq head next d.rec new f) d.value new (records_of log)
-    unfolding performed
+    performed-is : performed d n log f ≡ written_outcome (append_of n s seq head next (record_in d) new f) (reply_in d) new (records_of log)
     performed-is =
-        ap
-        (λ (b : Bool).
-        pick b (appended log.state n d.rec d.value log f)
-        (record { answer = d.answer; value = d.value; log = log; flash = f }))
-        writes
-        ∙ ap (λ (z : State). appended z n d.rec d.value log f) active
+        performed-writes d writes n log f
+        ∙ ap (λ (z : State). appended z n (record_in d) (reply_in d) log f) active
 
-    pub performed-appends : head < 256 → Succeeds f d.value (log_of (Active s seq (head + 1)) next new) 16 0 (performed d n log f)
+    pub performed-appends : head < 256 → Succeeds f (reply_in d) (log_of (Active s seq (head + 1)) next new) 16 0 (performed d n log f)
     performed-appends room =
-        subst (Succeeds f d.value (log_of (Active s seq (head + 1)) next new) 16 0) (sym performed-is)
-        (wrote_succeeds f _ (Active s seq (head + 1)) next 16 0 d.value new (records_of log)
-        (append-reached n s seq d.rec (records_of log) w next head f room on (here (Active s seq head) active) h))
+        subst (Succeeds f (reply_in d) (log_of (Active s seq (head + 1)) next new) 16 0) (sym performed-is)
+        (wrote_succeeds f _ (Active s seq (head + 1)) next 16 0 (reply_in d) new (records_of log)
+        (append-reached n s seq (record_in d) (records_of log) w next head f room on (here (Active s seq head) active) h))
 
     pub performed_rotates : head ≡ 256 → 1 < n → (next ≡ seq_max → ⊥)
-        → Succeeds f d.value (log_of (Active (sector_after n s) next (length new + 1)) (next + 1) new) (16 * (length new + 1)) 4096
+        → Succeeds f (reply_in d) (log_of (Active (sector_after n s) next (length new + 1)) (next + 1) new) (16 * (length new + 1)) 4096
         (performed d n log f)
     performed_rotates full others most =
-        subst (Succeeds f d.value (log_of (Active (sector_after n s) next (length new + 1)) (next + 1) new) (16 * (length new + 1)) 4096)
+        subst (Succeeds f (reply_in d) (log_of (Active (sector_after n s) next (length new + 1)) (next + 1) new) (16 * (length new + 1)) 4096)
         (sym performed-is)
-        (wrote_succeeds f _ (Active (sector_after n s) next (length new + 1)) (next + 1) (16 * (length new + 1)) 4096 d.value new (records_of log)
-        (append_rotated n s seq d.rec (records_of log) w next head full f others most on (here (Active s seq head) active) h))
+        (wrote_succeeds f _ (Active (sector_after n s) next (length new + 1)) (next + 1) (16 * (length new + 1)) 4096 (reply_in d) new (records_of log)
+        (append_rotated n s seq (record_in d) (records_of log) w next head full f others most on (here (Active s seq head) active) h))
 
   pub formatted_succeeds : log.state ≡ Unformatted → (t : List Raw) → Proper t → (next ≡ seq_max → ⊥)
       → Succeeds f 0 (log_of (Active 0 next (length t + 1)) (next + 1) t) (16 * (length t + 1)) 4096 (formatted t n log f)

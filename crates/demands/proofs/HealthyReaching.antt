@@ -1,4 +1,6 @@
 -- What a write comes to on a flash that refuses nothing: it is done, and costs what the paper says; or on no flash does it do anything.
+use Rattle.std.specs.Prelude.{Err}
+use Rattle.basics.specs.Answers.{all_done, is_done, Answer}
 use mathlib.Core.Path.{◌≡◌, refl, sym, ap, subst, ◌∙◌}
 use mathlib.Core.Bool.{Bool, true, false}
 use mathlib.Core.List.{List, []}
@@ -8,9 +10,7 @@ use native.Mathlib.Omega.{arith}
 use lib.Dec.{eqb}
 use lib.ListN.{length}
 use borrow.Author.Tests.{eq-eqb, eqb-true, eqb-false}
-use Rattle.basics.specs.Answers.{is_done}
-use Rattle.basics.specs.declared.Answer.{Answer}
-use Rattle.basics.specs.declared.Answer.TheVariants.{Done, WriteError}
+use Rattle.basics.specs.declared.Refusal.TheVariants.{WriteError}
 use Rattle.basics.proofs.ChoiceLaws.{by_test}
 use Rattle.codec.specs.declared.Raw.{Raw}
 use Rattle.codec.specs.Slots.{slot_of}
@@ -35,7 +35,7 @@ use Rattle.demands.proofs.SafeAppends.{Here, fits}
 
 -- done on a flash that stays healthy, with this state and next_seq, for so many bytes
 pub record Reached (f : Flash) (w : Written) (state : State) (next p e : ℕ) : Type 0 where
-  pub answer : w.answer ≡ Done
+  pub answer : w.answer ≡ all_done
   pub state-is : w.state ≡ state
   pub next-is : w.next ≡ next
   pub healthy : Healthy w.flash
@@ -111,16 +111,16 @@ module _ (n s seq : ℕ) (r : Raw) (old : List Raw) (w : Writable r old) (next :
       go (Ran.stopped i e c k l is) = absurd (i h)
       go (Ran.done i e c is u) =
           subst (λ (x : Written). Reached f x (Active s seq (head + 1)) next 16 0)
-          (sym (append_tried n s seq head next r (joined r old) f (record { full = false; answer = Done; head = head + 1; flash = o.flash })
-          (tries-done 3 s head slot WriteError f (omega arith) (λ z. omega arith) e) refl))
+          (sym (append_tried n s seq head next r (joined r old) f (record { full = false; answer = all_done; head = head + 1; flash = o.flash })
+          (tries-done 3 s head slot (Err WriteError) f (omega arith) (λ z. omega arith) e) refl))
           (record { answer = refl; state-is = refl; next-is = refl; healthy = i h; on = c; used = u })
 
   -- a full sector is committed anew
   module _ (head : ℕ) (full : head ≡ 256) where
     append-commits : (f : Flash) → append_of n s seq head next r (joined r old) f ≡ commit_after n s (joined r old) (Active s seq head) next f
     append-commits f =
-        append-full n s seq head next r (joined r old) f (record { full = true; answer = WriteError; head = head; flash = f })
-        (tries-full 3 s head slot WriteError f (omega arith) full) refl
+        append-full n s seq head next r (joined r old) f (record { full = true; answer = Err WriteError; head = head; flash = f })
+        (tries-full 3 s head slot (Err WriteError) f (omega arith) full) refl
 
     -- it can't be, on any flash, where there is no other sector or no further sequence number
     abbrev pub Stuck : Type 0
@@ -130,7 +130,7 @@ module _ (n s seq : ℕ) (r : Raw) (old : List Raw) (w : Writable r old) (next :
     append-idle f within k = subst (λ (x : Written). Idle f x (Active s seq head) next) (sym (append-commits f)) (go k)
       where
         go : (n ≡ 1) ⊎ (next ≡ seq_max) → Idle f (commit_after n s (joined r old) (Active s seq head) next f) (Active s seq head) next
-        go (inr e) = commit-used-idle n n s (sector_after n s) (joined r old) WriteError (Active s seq head) next f refl e
+        go (inr e) = commit-used-idle n n s (sector_after n s) (joined r old) (Err WriteError) (Active s seq head) next f refl e
         go (inl e) =
             let only : s ≡ 0 = omega arith in
             subst (λ (m : ℕ). Idle f (commit_after m s (joined r old) (Active s seq head) next f) (Active s seq head) next) (sym e)
@@ -148,8 +148,8 @@ module _ (n s seq : ℕ) (r : Raw) (old : List Raw) (w : Writable r old) (next :
         subst
         (λ (x : Written).
         Reached f x (Active (sector_after n s) next (length (joined r old) + 1)) (next + 1) (16 * (length (joined r old) + 1)) 4096)
-        (sym (append-commits f ∙ ap (λ (m : ℕ). commit_from m n s (sector_after n s) (joined r old) WriteError (Active s seq head) next f) left))
-        (commit-reached n s (joined r old) proper old (Active s seq head) refl (n - 1) (sector_after n s) WriteError next f
+        (sym (append-commits f ∙ ap (λ (m : ℕ). commit_from m n s (sector_after n s) (joined r old) (Err WriteError) (Active s seq head) next f) left))
+        (commit-reached n s (joined r old) proper old (Active s seq head) refl (n - 1) (sector_after n s) (Err WriteError) next f
         (after-within n s within) (after-apart n s others) most on g h)
 
 -- ---- the table after a write
@@ -203,15 +203,15 @@ module _ (n next : ℕ) (t : List Raw) (proper : Proper t) (image : List ℕ) (g
       let some = g.found.1 in
       let left : n ≡ suc (n - 1) = omega arith in
       subst (λ (x : Written). Reached f x (Active 0 next (length t + 1)) (next + 1) (16 * (length t + 1)) 4096)
-      (sym (ap (λ (m : ℕ). commit_from m n n 0 t WriteError Unformatted next f) left))
-      (commit-reached n n t proper [] Unformatted refl (n - 1) 0 WriteError next f some (λ z. omega arith) most on
+      (sym (ap (λ (m : ℕ). commit_from m n n 0 t (Err WriteError) Unformatted next f) left))
+      (commit-reached n n t proper [] Unformatted refl (n - 1) 0 (Err WriteError) next f some (λ z. omega arith) most on
       (subst (λ (l : List ℕ). Agrees n l Unformatted next []) (sym i) g) h)
 
   pub first_reaches : Reaches image Unformatted next t (commit_first n t Unformatted next)
   first_reaches = go (eqb next seq_max) refl
     where
       go : (b : Bool) → eqb next seq_max ≡ b → Reaches image Unformatted next t (commit_first n t Unformatted next)
-      go true e = inr (λ f. commit-used-idle n n n 0 t WriteError Unformatted next f refl (eqb-true next seq_max e))
+      go true e = inr (λ f. commit-used-idle n n n 0 t (Err WriteError) Unformatted next f refl (eqb-true next seq_max e))
       go false e =
           inl
           (λ f i on h.

@@ -1,4 +1,6 @@
 -- The invariant between an image and a log: opening any image establishes it, and it says what opening finds.
+use Rattle.std.specs.Prelude.{Option, Some, None}
+use Rattle.basics.specs.Answers.{all_done}
 use mathlib.Core.Path.{◌≡◌, refl, sym, ap, subst, ◌∙◌}
 use mathlib.Core.Bool.{Bool, true, false, false≢true}
 use mathlib.Core.List.{List, []}
@@ -11,11 +13,9 @@ use lib.Pow.{are_bytes}
 use borrow.Author.Tests.{eq-eqb, ne_eqb, eqb-true, eqb-false, leb-true, leb-false}
 use Rattle.basics.specs.Lists.{all_are}
 use Rattle.basics.proofs.ListsLaws.{all_replicate, all_eq}
-use Rattle.basics.specs.declared.Answer.TheVariants.{Done}
 use Rattle.codec.specs.declared.Raw.{Raw}
-use Rattle.codec.specs.declared.Header.TheVariants.{Invalid}
 use Rattle.codec.proofs.SlotsLaws.{erased-none}
-use Rattle.codec.specs.Slots.{decoded, none}
+use Rattle.codec.specs.Slots.{decoded}
 use Rattle.flash.specs.Image.{sectors_in, slot_at}
 use Rattle.flash.proofs.ImageSectors.{sectors-whole}
 use Rattle.flash.proofs.ImageView.{slot-length, slot-bytes}
@@ -24,8 +24,6 @@ use Rattle.records.specs.declared.State.TheVariants.{Unformatted, Failed, Active
 use Rattle.records.specs.declared.Log.{Log}
 use Rattle.records.specs.Logs.{log_of, records_of}
 use Rattle.records.proofs.LogsPlaces.{places-take}
-use Rattle.scan.specs.declared.Chosen.{Chosen}
-use Rattle.scan.specs.declared.Chosen.TheVariants.{Sector, Nothing}
 use Rattle.scan.specs.declared.Opened.{Opened}
 use Rattle.scan.specs.Choosing.{header_at, chosen_of, Wins}
 use Rattle.scan.specs.Reading.{Read, too_many, these, read_from, records_in, head_in}
@@ -46,7 +44,7 @@ pub record Standing (n : ℕ) (image : List ℕ) (s seq head next : ℕ) (t : Li
   pub reads : read_from (head - 1) 1 seq (slot_at image s) (these []) ≡ these t
 
 abbrev pub Found : State → ℕ → List ℕ → ℕ → List Raw → Type 0
-Found Unformatted n image next t = (t ≡ []) × (0 < n) × ((s : ℕ) → s < n → header_at 2 image s ≡ Invalid)
+Found Unformatted n image next t = (t ≡ []) × (0 < n) × ((s : ℕ) → s < n → header_at 2 image s ≡ None)
 Found Failed n image next t = (t ≡ []) × ((open_of image).log.state ≡ Failed)
 Found (Active s seq head) n image next t = Standing n image s seq head next t
 
@@ -89,7 +87,7 @@ inv-fits image log i =
 
 -- ---- what opening finds
 -- erased slots hold no record
-pub erased_quiet : (seq : ℕ) (slots : ℕ → List ℕ) (k : ℕ) → slots k ≡ replicate 16 0xFF → decoded seq (slots k) ≡ none
+pub erased_quiet : (seq : ℕ) (slots : ℕ → List ℕ) (k : ℕ) → slots k ≡ replicate 16 0xFF → decoded seq (slots k) ≡ None
 erased_quiet seq slots k e = erased-none seq (slots k) (ap (all_are 0xFF) e ∙ all_replicate 16 0xFF)
 
 -- all slots of a sector that is erased from head on read as those below head
@@ -103,7 +101,7 @@ all-below seq slots head low high erased =
     (λ k l u. erased_quiet seq slots k (erased k (omega arith) (omega arith)))
 
 opened : (image : List ℕ) → 0 < sectors_in (length image)
-    → open_of image ≡ record { answer = Done; log = log_from (region_chosen image (chosen_of 2 (sectors_in (length image)) image)) }
+    → open_of image ≡ record { answer = all_done; log = log_from (region_chosen image (chosen_of 2 (sectors_in (length image)) image)) }
 unfolding open_of scan_of
 opened image h = rw (ne_eqb (sectors_in (length image)) 0 (λ e. omega arith))
 
@@ -119,12 +117,12 @@ module _ (n : ℕ) (image : List ℕ) (sized : sectors_in (length image) ≡ n) 
     standing_open : (open_of image).log ≡ log_of (Active s seq found_head) (next_of (Active s seq found_head)) t
     standing_open =
         let within = g.placed.within in
-        let chosen : chosen_of 2 (sectors_in (length image)) image ≡ Sector s seq =
+        let chosen : chosen_of 2 (sectors_in (length image)) image ≡ Some (s, seq) =
         ap (λ (m : ℕ). chosen_of 2 m image) sized ∙ winner_chosen (header_at 2 image) n s seq g.wins in
         let records : records_in seq (slot_at image s) ≡ these t =
         all-below seq (slot_at image s) head g.placed.low g.placed.high g.erased ∙ g.reads in
         ap (λ (o : Opened). o.log) (opened image (omega arith))
-        ∙ ap (λ (c : Chosen). log_from (region_chosen image c)) chosen
+        ∙ ap (λ (c : Option (ℕ × ℕ)). log_from (region_chosen image c)) chosen
         ∙ ap (λ (r : Read). log_from (region_read s seq found_head r)) records
 
     -- what lies just below the head found isn't erased
@@ -143,12 +141,12 @@ module _ (n : ℕ) (image : List ℕ) (sized : sectors_in (length image) ≡ n) 
                 absurd (false≢true (sym p.2 ∙ ap (all_are 0xFF) (g.erased p.0 l (omega (arith, p.1))) ∙ all_replicate 16 0xFF))
             used false e = let l = leb-false head p.0 e in omega (arith, p.1)
 
-  none_open : ((s : ℕ) → s < n → header_at 2 image s ≡ Invalid) → 0 < n → (open_of image).log ≡ log_of Unformatted 1 []
+  none_open : ((s : ℕ) → s < n → header_at 2 image s ≡ None) → 0 < n → (open_of image).log ≡ log_of Unformatted 1 []
   none_open none h =
-      let chosen : chosen_of 2 (sectors_in (length image)) image ≡ Nothing =
+      let chosen : chosen_of 2 (sectors_in (length image)) image ≡ None =
       ap (λ (m : ℕ). chosen_of 2 m image) sized ∙ none-chosen (header_at 2 image) n none in
       ap (λ (o : Opened). o.log) (opened image (omega arith))
-      ∙ ap (λ (c : Chosen). log_from (region_chosen image c)) chosen
+      ∙ ap (λ (c : Option (ℕ × ℕ)). log_from (region_chosen image c)) chosen
 
   -- the invariant says what opening finds, and that the head found is no higher than the one held
   pub agrees_open : (state : State) (next : ℕ) (t : List Raw) → Found state n image next t
@@ -206,12 +204,12 @@ module _ (image : List ℕ) (bytes : T (are_bytes image)) where
         };
       })
 
-  chosen-inv : 0 < n → (c : Chosen) → Right (header_at 2 image) n c → (open_of image).log ≡ log_from (region_chosen image c)
+  chosen-inv : 0 < n → (c : Option (ℕ × ℕ)) → Right (header_at 2 image) n c → (open_of image).log ≡ log_from (region_chosen image c)
       → Inv image (log_from (region_chosen image c))
-  chosen-inv h Nothing r o =
+  chosen-inv h None r o =
       inv_of n image Unformatted 1 []
       (record { sized = refl; bytes = bytes; numbered = omega arith; most = omega arith; proper = proper-none; found = (refl, h, r) })
-  chosen-inv h (Sector s seq) w o =
+  chosen-inv h (Some (s, seq)) w o =
       read-inv s seq w (records_in seq (slot_at image s)) refl
       (read-proper seq (slot_at image s) (λ k. slot-bytes image bytes s k) 255 1 (these []) proper-none) o
 

@@ -1,4 +1,5 @@
 -- What a write that failed leaves: the state but for head, and the active sector's bytes but for the slots tried.
+use Rattle.std.specs.Prelude.{Err}
 use mathlib.Core.Path.{◌≡◌, refl, sym, ap, ap₂, subst, ◌∙◌}
 use mathlib.Core.Bool.{Bool, true, false, false≢true}
 use mathlib.Core.List.{List, []}
@@ -9,9 +10,8 @@ use lib.Dec.{eqb}
 use lib.ListN.{length, length-take}
 use borrow.Author.Tests.{eqb-true}
 use Rattle.basics.specs.Choice.{pick}
-use Rattle.basics.specs.Answers.{is_done}
-use Rattle.basics.specs.declared.Answer.{Answer}
-use Rattle.basics.specs.declared.Answer.TheVariants.{WriteError}
+use Rattle.basics.specs.Answers.{is_done, Answer}
+use Rattle.basics.specs.declared.Refusal.TheVariants.{WriteError}
 use Rattle.basics.proofs.ChoiceLaws.{by_test}
 use Rattle.codec.specs.declared.Raw.{Raw}
 use Rattle.codec.specs.Slots.{slot_of}
@@ -139,7 +139,7 @@ pub record HeadMoved (s seq head : ℕ) (state : State) : Type 0 where
 pub append-state : (n s seq head next : ℕ) (r : Raw) (t : List Raw) (f : Flash) → Fails (append_of n s seq head next r t f).answer
     → HeadMoved s seq head (append_of n s seq head next r t f).state
 unfolding append_of
-append-state n s seq head next r t f = go (tries_from 3 s head (slot_of seq r) WriteError f) (tries-head 3 s head (slot_of seq r) WriteError f)
+append-state n s seq head next r t f = go (tries_from 3 s head (slot_of seq r) (Err WriteError) f) (tries-head 3 s head (slot_of seq r) (Err WriteError) f)
   where
     go : (o : SlotTries) → (o.full ≡ true → o.head ≡ 256) × (o.full ≡ false → Fails o.answer → o.head ≡ head + 3)
         → Fails
@@ -153,7 +153,7 @@ append-state n s seq head next r t f = go (tries_from 3 s head (slot_of seq r) W
         (λ e d.
         record {
           head-now = o.head;
-          state-is = commit-state n n s (sector_after n s) t WriteError (Active s seq o.head) next o.flash refl d;
+          state-is = commit-state n n s (sector_after n s) t (Err WriteError) (Active s seq o.head) next o.flash refl d;
           past = inl (h.0 e);
         })
         (λ e d. record { head-now = o.head; state-is = refl; past = inr (h.1 e d) })
@@ -244,7 +244,7 @@ module _ (image : List ℕ) (log : Log) (plan : Plan) where
       }
   course_leaves c o (formats fits some z new few) e =
       let same = failed-table (commit_first n new Unformatted log.next_seq f) 0 new [] e ∙ sym (fits-unformatted n log fits z) in
-      let kept = commit-state n n n 0 new WriteError Unformatted log.next_seq f refl e in
+      let kept = commit-state n n n 0 new (Err WriteError) Unformatted log.next_seq f refl e in
       record {
         table = same;
         left = subst (NoEffect c log) (sym (seen_same o Unformatted z kept same)) (no_effect c log);

@@ -1,4 +1,6 @@
 -- The tries of a credential that is held: each call by the table that it decides on, and so over a session.
+use Rattle.demands.specs.Calls.{anchor_raw}
+use Rattle.std.specs.Prelude.{is_some, Option, Some, None}
 use mathlib.Core.Path.{◌≡◌, refl, sym, ap, subst, ◌∙◌}
 use mathlib.Core.Bool.{Bool, true, false, ◌&&◌, false≢true}
 use mathlib.Core.List.{List, [], ◌∷◌}
@@ -9,17 +11,15 @@ use lib.Dec.{eqb}
 use lib.ListN.{length}
 use borrow.Author.Tests.{eqb-true}
 use Rattle.basics.specs.Choice.{pick}
-use Rattle.basics.specs.Answers.{is_done}
-use Rattle.basics.specs.declared.Answer.{Answer}
+use Rattle.basics.specs.Answers.{is_done, Answer}
 use Rattle.basics.proofs.ChoiceLaws.{first, second, by_test}
 use Rattle.ids.specs.declared.CounterState.{CounterState}
 use Rattle.ids.specs.declared.Anchor.{Anchor}
 use Rattle.ids.specs.Ids.{counter_tag, value_tag, anchor_tag, lamport, is_credential}
-use Rattle.ids.specs.Counters.{fresh_of, remaining_of, one_more, reset_of}
+use Rattle.ids.specs.Counters.{remaining_of, one_more, reset_of}
 use Rattle.ids.proofs.IdsLaws.{remaining_reset, failure_takes_one}
 use Rattle.codec.specs.declared.Raw.{Raw}
-use Rattle.codec.specs.declared.OptRaw.{OptRaw}
-use Rattle.bodies.specs.Bodies.{counter_record, counter_in, value_record, anchor_body, anchor_record}
+use Rattle.bodies.specs.Bodies.{counter_record, value_record, anchor_body}
 use Rattle.bodies.proofs.BodiesRoundTrip.{counter-read}
 use Rattle.flash.specs.declared.Plan.{Plan}
 use Rattle.flash.specs.Image.{sectors_in}
@@ -27,12 +27,12 @@ use Rattle.flash.specs.Run.{Flash}
 use Rattle.records.specs.declared.State.{State}
 use Rattle.records.specs.declared.State.TheVariants.{Unformatted, Failed, Active}
 use Rattle.records.specs.declared.Log.{Log}
-use Rattle.records.specs.Table.{has_key, holds, joined}
+use Rattle.records.specs.Table.{has_key, holds, joined, held_of}
 use Rattle.records.specs.Logs.{records_of}
 use Rattle.scan.specs.Opening.{open_of}
 use Rattle.decisions.specs.declared.Decision.{Decision}
-use Rattle.decisions.specs.Decisions.{when_active, give, write, anchor_decision}
-use Rattle.reads.specs.Entering.{entry_answer, held_of, room_for}
+use Rattle.decisions.specs.Decisions.{when_active, give, write, anchor_decision, writes_record, record_in, answer_in}
+use Rattle.reads.specs.Entering.{entry_answer, room_for}
 use Rattle.decisions.specs.declared.seeds.Seed.{Seed}
 use Rattle.decisions.specs.Seeds.{seeds_known, seed_table}
 use Rattle.decisions.specs.Outcomes.{Outcome, flash_of, refused, entered}
@@ -50,7 +50,7 @@ use Rattle.demands.specs.PulledStick.{woken, Lucky, Remain, Has, a_set, KeepsSet
 use Rattle.demands.specs.PulledStick.{Between, Finds, PulledSet, PulledOther, PulledSession}
 use Rattle.demands.proofs.Invariant.{Found, Inv, inv_open, open_inv}
 use Rattle.demands.proofs.SafePerforming.{Always, WakesUp, SafeCall, lasted, stopped, refusal-safe, decided_table}
-use Rattle.demands.proofs.CallsDeciding.{Decided, refuses, gives, writes, Sound, put-decided, value-decided, held-blank}
+use Rattle.demands.proofs.CallsDeciding.{Decided, refuses, gives, writes, Sound, put-decided, value-decided}
 use Rattle.demands.proofs.CallsDeciding.{anchor-decided, anchor-sound}
 use Rattle.demands.proofs.CallsTrying.{spend-decided, set_decided, advance_decided, set-sound}
 use Rattle.demands.proofs.SafeCalls.{keyed-decided}
@@ -113,7 +113,7 @@ module _ (image : List ℕ) (log : Log) (i : Inv image log) where
     abbrev Comes : (List ℕ → Type 0) → Decision → Outcome → Type 0
     Comes C d o = SafeCall n C (λ z. z ≡ seen log) (decided_table d log) o
 
-    keyed_comes : (known : Bool) (tag id : ℕ) (d : OptRaw → Bool → Decision) (r : List Raw → Raw) → Sound tag id d r → (plan : Plan)
+    keyed_comes : (known : Bool) (tag id : ℕ) (d : Option Raw → Bool → Decision) (r : List Raw → Raw) → Sound tag id d r → (plan : Plan)
         → Comes (Unmatched log.state (r t)) (d (held_of tag id t) (room_for tag id t)) (entered image log plan known (decided tag id d))
     keyed_comes known tag id d r sound plan =
         subst
@@ -124,18 +124,18 @@ module _ (image : List ℕ) (log : Log) (i : Inv image log) where
         (keyed-decided image log i known tag id d r sound plan)
 
     anchor_comes : (new : Anchor) → TypedAnchor new → (plan : Plan)
-        → Comes (Unmatched (anchor_to log.state image log plan) (anchor_record new).raw)
+        → Comes (Unmatched (anchor_to log.state image log plan) (anchor_raw new))
         (anchor_decision (held_of anchor_tag 0 t) (room_for anchor_tag 0 t) new) (put_anchor_of image log plan new)
     unfolding put_anchor_of entered
     anchor_comes new typed plan =
         let d = anchor_decision (held_of anchor_tag 0 t) (room_for anchor_tag 0 t) new in
         subst
         (λ (z : State).
-        Comes (Unmatched (anchor_to z image log plan) (anchor_record new).raw) d
+        Comes (Unmatched (anchor_to z image log plan) (anchor_raw new)) d
         (entered image log plan true (λ (n : ℕ) (l : Log) (f : Flash). anchored z new n l f)))
         (sym active)
-        (subst (λ (z : State). Comes (Unmatched z (anchor_record new).raw) d (entered image log plan true (anchor_call new))) active
-        (keyed_comes true anchor_tag 0 (λ (held : OptRaw) (room : Bool). anchor_decision held room new) (λ _. (anchor_record new).raw)
+        (subst (λ (z : State). Comes (Unmatched z (anchor_raw new)) d (entered image log plan true (anchor_call new))) active
+        (keyed_comes true anchor_tag 0 (λ (held : Option Raw) (room : Bool). anchor_decision held room new) (λ _. anchor_raw new)
         (anchor-sound new typed) plan))
 
     -- "format on a log that isn't Unformatted: 6"
@@ -166,22 +166,27 @@ module _ (image : List ℕ) (log : Log) (i : Inv image log) where
   -- ---- a credential
   by-decision : (P : List Raw → Type 0) (room : Bool) (r : Raw) (Q : Type 0) (d : Decision) → Decided room r Q d → P t → P (joined r t)
       → P (records_in (decided_table d log))
-  by-decision P room r Q d (refuses a k) p q = subst P (shown_records image log i) p
+  by-decision P room r Q d (refuses x) p q = subst P (shown_records image log i) p
   by-decision P room r Q d (gives value) p q = subst P (shown_records image log i) p
   by-decision P room r Q d (writes value h k) p q = q
 
-  decided-rec : (room : Bool) (r : Raw) (Q : Type 0) (d : Decision) → Decided room r Q d → d.write ≡ true → d.rec ≡ r
-  decided-rec room r Q d (refuses a k) e = absurd (false≢true e)
+  decided-rec : (room : Bool) (r : Raw) (Q : Type 0) (d : Decision) → Decided room r Q d → writes_record d ≡ true → record_in d ≡ r
+  decided-rec room r Q d (refuses x) e = absurd (false≢true e)
   decided-rec room r Q d (gives value) e = absurd (false≢true e)
   decided-rec room r Q d (writes value h k) e = refl
 
+  record-in : (o : Option Raw) → is_some o ≡ true → (r : Raw) × (o ≡ Some r)
+  record-in None e = absurd (false≢true e)
+  record-in (Some r) e = (r, refl)
+
   module _ (credential : ℕ) where
-    abbrev held_in : List Raw → OptRaw
+    abbrev held_in : List Raw → Option Raw
     held_in u = held_of counter_tag credential u
 
     -- a counter of the credential that joined
     own-remain : (s : CounterState) → Remain (remaining_of s) (held_in (joined (counter_record credential s) t))
-    own-remain s = subst (Remain (remaining_of s)) (sym (join_held (counter_record credential s) t)) (refl, ap remaining_of (counter-read s))
+    own-remain s = subst (Remain (remaining_of s)) (sym (join_held (counter_record credential s) t))
+        (counter_record credential s, refl, ap remaining_of (counter-read s))
 
     -- ---- a set leads to the counter from before or to the new number, and to the latter where it answers 0
     module _ (new : ℕ) where
@@ -197,50 +202,51 @@ module _ (image : List ℕ) (log : Log) (i : Inv image log) where
           (subst (λ (m : ℕ). Remain m (held_in (joined (counter_record credential (reset_of s new)) t))) (remaining_reset s new)
           (own-remain (reset_of s new)))
 
-      set-remain : (z : State) → (when_active z d).write ≡ true → Remain new (held_in (joined (when_active z d).rec t))
+      set-remain : (z : State) → writes_record (when_active z d) ≡ true → Remain new (held_in (joined (record_in (when_active z d)) t))
       set-remain Unformatted e = absurd (false≢true e)
       set-remain Failed e = absurd (false≢true e)
       set-remain (Active sector seq head) e =
-          reset_remain d.rec (decided-rec _ _ _ d (set_decided (held_in t) (room_for counter_tag credential t) credential new) e)
+          reset_remain (record_in d) (decided-rec _ _ _ d (set_decided (held_in t) (room_for counter_tag credential t) credential new) e)
 
       set-either : (z : State)
           → (held_in (records_in (decided_table (when_active z d) log)) ≡ held_in t)
           ⊎ Remain new (held_in (records_in (decided_table (when_active z d) log)))
-      set-either z = go (when_active z d).write refl
+      set-either z = go (writes_record (when_active z d)) refl
         where
-          go : (b : Bool) → (when_active z d).write ≡ b
-              → (held_in (records_in (pick b (holding (joined (when_active z d).rec t)) (table_of log))) ≡ held_in t)
-              ⊎ Remain new (held_in (records_in (pick b (holding (joined (when_active z d).rec t)) (table_of log))))
+          go : (b : Bool) → writes_record (when_active z d) ≡ b
+              → (held_in (records_in (pick b (holding (joined (record_in (when_active z d)) t)) (table_of log))) ≡ held_in t)
+              ⊎ Remain new (held_in (records_in (pick b (holding (joined (record_in (when_active z d)) t)) (table_of log))))
           go true e = inr (set-remain z e)
           go false e = inl (ap held_in (sym (shown_records image log i)))
 
       -- nothing is written where the record that is held says so already
-      set-idle : d.write ≡ false → is_done d.answer ≡ true → Remain new (held_in t)
+      set-idle : writes_record d ≡ false → is_done (answer_in d) ≡ true → Remain new (held_in t)
       unfolding set_decision start_of
-      set-idle = go ((held_in t).some && eqb (remaining_of s) new) refl
+      set-idle = go (is_some (held_in t) && eqb (remaining_of s) new) refl
         where
-          go : (b : Bool) → (held_in t).some && eqb (remaining_of s) new ≡ b
-              → (pick b (give 0) (write (room_for counter_tag credential t) (counter_record credential (reset_of s new)) 0)).write ≡ false
-              → is_done (pick b (give 0) (write (room_for counter_tag credential t) (counter_record credential (reset_of s new)) 0)).answer
+          go : (b : Bool) → is_some (held_in t) && eqb (remaining_of s) new ≡ b
+              → writes_record (pick b (give 0) (write (room_for counter_tag credential t) (counter_record credential (reset_of s new)) 0)) ≡ false
+              → is_done (answer_in (pick b (give 0) (write (room_for counter_tag credential t) (counter_record credential (reset_of s new)) 0)))
               ≡ true
               → Remain new (held_in t)
           go true e w k =
-              let some-held = first (held_in t).some (eqb (remaining_of s) new) e in (
-                some-held,
-                sym (ap (λ (b : Bool). remaining_of (pick b (counter_in (held_in t).raw.body) (fresh_of new))) some-held)
-                    ∙ eqb-true (remaining_of s) new (second (held_in t).some (eqb (remaining_of s) new) e),
+              let held = record-in (held_in t) (first (is_some (held_in t)) (eqb (remaining_of s) new) e) in (
+                held.0,
+                held.1,
+                sym (ap (λ (o : Option Raw). remaining_of (start_of o new)) held.1)
+                    ∙ eqb-true (remaining_of s) new (second (is_some (held_in t)) (eqb (remaining_of s) new) e),
               )
           go false e w k =
-              by_test (λ (x : Decision). x.write ≡ false → is_done x.answer ≡ true → Remain new (held_in t)) (room_for counter_tag credential t) _ _
+              by_test (λ (x : Decision). writes_record x ≡ false → is_done (answer_in x) ≡ true → Remain new (held_in t)) (room_for counter_tag credential t) _ _
               (λ _ v. absurd (false≢true (sym v))) (λ _ _ v. absurd (false≢true v)) w k
 
-      set-later : (z : State) → ((when_active z d).write ≡ false → is_done (when_active z d).answer ≡ true)
+      set-later : (z : State) → (writes_record (when_active z d) ≡ false → is_done (answer_in (when_active z d)) ≡ true)
           → Remain new (held_in (records_in (decided_table (when_active z d) log)))
       set-later Unformatted e = absurd (false≢true (e refl))
       set-later Failed e = absurd (false≢true (e refl))
-      set-later (Active sector seq head) e = go d.write refl
+      set-later (Active sector seq head) e = go (writes_record d) refl
         where
-          go : (b : Bool) → d.write ≡ b → Remain new (held_in (records_in (pick b (holding (joined d.rec t)) (table_of log))))
+          go : (b : Bool) → writes_record d ≡ b → Remain new (held_in (records_in (pick b (holding (joined (record_in d) t)) (table_of log))))
           go true k = set-remain (Active sector seq head) k
           go false k = subst (λ (u : List Raw). Remain new (held_in u)) (shown_records image log i) (set-idle k (e k))
 
@@ -251,7 +257,7 @@ module _ (image : List ℕ) (log : Log) (i : Inv image log) where
       held-active = go log.state refl i.agrees.found
         where
           empty : t ≡ [] → ⊥
-          empty e = false≢true (ap (λ (u : List Raw). (held_of counter_tag credential u).some) (sym e) ∙ has.0)
+          empty e = false≢true (ap (λ (u : List Raw). is_some (held_of counter_tag credential u)) (sym e) ∙ ap (λ (o : Option Raw). is_some o) has.1)
 
           go : (z : State) → log.state ≡ z → Found z n image log.next_seq t
               → (s : ℕ) × (seq : ℕ) × (head : ℕ) × (log.state ≡ Active s seq head)
@@ -267,7 +273,7 @@ module _ (image : List ℕ) (log : Log) (i : Inv image log) where
       -- the caller's number is not looked at
       start-tries : (fresh : ℕ) → remaining_of (start_of (held_in t) fresh) ≡ tries
       unfolding start_of
-      start-tries fresh = ap (λ (b : Bool). remaining_of (pick b (counter_in (held_in t).raw.body) (fresh_of fresh))) has.0 ∙ has.1
+      start-tries fresh = ap (λ (o : Option Raw). remaining_of (start_of o fresh)) has.1 ∙ has.2
 
       -- ---- any other call leads to the tries from before, a spend to these or one fewer
       unspent : (spends : ℕ) → Between tries spends (held_in t)
@@ -282,7 +288,7 @@ module _ (image : List ℕ) (log : Log) (i : Inv image log) where
       own-later : (current : ℕ)
           → Between tries 1
           (held_in (records_in (decided_table (spend_decision (held_in t) (room_for counter_tag credential t) credential current) log)))
-      own-later current = go d.write refl
+      own-later current = go (writes_record d) refl
         where
           d : Decision
           d = spend_decision (held_in t) (room_for counter_tag credential t) credential current
@@ -290,7 +296,7 @@ module _ (image : List ℕ) (log : Log) (i : Inv image log) where
           s : CounterState
           s = start_of (held_in t) current
 
-          go : (b : Bool) → d.write ≡ b → Between tries 1 (held_in (records_in (pick b (holding (joined d.rec t)) (table_of log))))
+          go : (b : Bool) → writes_record d ≡ b → Between tries 1 (held_in (records_in (pick b (holding (joined (record_in d) t)) (table_of log))))
           go true e =
               let w = spend-writes credential current t e in
               let one = failure_takes_one s w.0 in
@@ -305,7 +311,7 @@ module _ (image : List ℕ) (log : Log) (i : Inv image log) where
           other-later _ (counter_record other new) _ _ (put-decided (held_of counter_tag other t) (room_for counter_tag other t) other new) apart
       call-later (put-value id new) apart =
           other-later _ (value_record id new) _ _
-          (value-decided (held_of value_tag id t) (room_for value_tag id t) id new (held-blank value_tag id t)) refl
+          (value-decided (held_of value_tag id t) (room_for value_tag id t) id new) refl
       call-later (put-anchor new) apart =
           other-later _ (record { tag = anchor_tag; id = 0; body = anchor_body new }) _ _
           (anchor-decided (held_of anchor_tag 0 t) (room_for anchor_tag 0 t) new) refl
@@ -341,7 +347,7 @@ module _ (w : World) (i : Agree w) (credential new : ℕ) (fits : credential < 2
   abbrev before : List Raw
   before = records_of w.log
 
-  abbrev comes_to : OptRaw → Bool → Decision
+  abbrev comes_to : Option Raw → Bool → Decision
   comes_to held room = set_decision held room credential new
 
   set-safe : SafeCall (sectors_in (length w.image)) (Unmatched w.log.state (record_of m.call before)) (λ z. z ≡ seen w.log)
@@ -390,10 +396,10 @@ module _ (w : World) (i : Agree w) (credential tries : ℕ) (has : Has credentia
   other-leaves m typed apart idle lucky =
       let found = call-found m typed apart lucky in
       let same : found.left ≡ tries = omega (arith, found.none_back, found.none_lost) in
-      (found.remain.0, found.remain.1 ∙ same)
+      (found.remain.0, found.remain.1, found.remain.2 ∙ same)
 
 -- ---- and so on
-between_on : (tries j k : ℕ) (held x : OptRaw) → (b : Between tries j held) → Between b.left k x → Between tries (j + k) x
+between_on : (tries j k : ℕ) (held x : Option Raw) → (b : Between tries j held) → Between b.left k x → Between tries (j + k) x
 between_on tries j k held x b c =
     record {
       left = c.left;

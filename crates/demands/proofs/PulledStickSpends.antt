@@ -1,4 +1,5 @@
 -- The tries after a spend, by the tables of before and after; and what is held of a key in a table that a record joined.
+use Rattle.std.specs.Prelude.{Option, Some, None, Ok, Err}
 use mathlib.Core.Path.{◌≡◌, refl, sym, ap, ap₂, ◌∙◌}
 use mathlib.Core.Bool.{Bool, true, false, ◌&&◌, ◌||◌, false≢true}
 use mathlib.Core.List.{List, [], ◌∷◌}
@@ -10,16 +11,14 @@ use lib.ListN.{length, get_or}
 use borrow.Author.Tests.{eq-eqb, ne_eqb, eqb-true, eqb-false}
 use Rattle.basics.specs.Choice.{pick}
 use Rattle.basics.specs.Answers.{is_done}
-use Rattle.basics.specs.declared.Answer.TheVariants.{WriteError}
+use Rattle.basics.specs.declared.Refusal.TheVariants.{WriteError}
 use Rattle.basics.proofs.ChoiceLaws.{both, first, second, by_test}
 use Rattle.ids.specs.declared.CounterState.{CounterState}
-use Rattle.ids.specs.declared.Next.TheVariants as next
 use Rattle.ids.specs.Ids.{counter_tag, is_credential}
 use Rattle.ids.specs.Counters.{remaining_of, total_max, one_more, failed_of}
 use Rattle.ids.proofs.IdsLaws.{failure_takes_one}
 use Rattle.codec.specs.declared.Raw.{Raw}
-use Rattle.codec.specs.declared.OptRaw.{OptRaw}
-use Rattle.codec.specs.Slots.{no_raw, some, none}
+use Rattle.codec.specs.Slots.{no_raw}
 use Rattle.bodies.specs.Bodies.{counter_record}
 use Rattle.bodies.proofs.BodiesRoundTrip.{counter-read}
 use Rattle.flash.specs.declared.Plan.{Plan}
@@ -27,17 +26,18 @@ use Rattle.flash.specs.Image.{sectors_in}
 use Rattle.records.specs.declared.State.{State}
 use Rattle.records.specs.declared.State.TheVariants.{Unformatted, Failed, Active}
 use Rattle.records.specs.declared.Log.{Log}
-use Rattle.records.specs.Table.{has_key, same_key, place_of, holds, joined}
+use Rattle.records.specs.Table.{has_key, same_key, place_of, holds, joined, held_of}
 use Rattle.records.specs.Logs.{records_of}
 use Rattle.decisions.specs.declared.Decision.{Decision}
-use Rattle.decisions.specs.Decisions.{when_active, give}
-use Rattle.reads.specs.Entering.{held_of, room_for, entry_answer}
+use Rattle.decisions.specs.declared.Decision.TheVariants.{Refuse, Give, Write}
+use Rattle.decisions.specs.Decisions.{when_active, give, writes_record, record_in, answer_in}
+use Rattle.reads.specs.Entering.{room_for, entry_answer}
 use Rattle.tries.specs.Tries.{start_of, spent_by, spend_from, spend_decision, spend_of}
 use Rattle.demands.specs.Seen.{seen_by, Table, blank, broken, holding, table_in, table_of, seen}
 use Rattle.demands.proofs.Invariant.{Found, Inv, inv_open, open_inv}
 use Rattle.scan.specs.Opening.{open_of}
 use Rattle.decisions.specs.Outcomes.{Outcome, flash_of, refused, entered}
-use Rattle.decisions.specs.Performing.{appended, performed, decided}
+use Rattle.decisions.specs.Performing.{performed, decided}
 use Rattle.demands.specs.Chance.{Unmatched}
 use Rattle.demands.specs.Sessions.{World, now}
 use Rattle.demands.specs.PulledStick.{tries_in, KeepsTries, PulledSpend}
@@ -71,11 +71,11 @@ module _ (r : Raw) where
       go ih true k = ap (λ (b : Bool). get_or (r ∷ es) (pick b 0 (suc (place_of r.tag r.id es))) no_raw) (own_key r)
       go ih false k = ap (λ (b : Bool). get_or (e ∷ joined r es) (pick b 0 (suc (place_of r.tag r.id (joined r es)))) no_raw) k ∙ ih
 
-  pub join_held : (t : List Raw) → held_of r.tag r.id (joined r t) ≡ some r
+  pub join_held : (t : List Raw) → held_of r.tag r.id (joined r t) ≡ Some r
   unfolding held_of
   join_held t =
-      ap (λ (b : Bool). pick b (some (get_or (joined r t) (place_of r.tag r.id (joined r t)) no_raw)) none) (join_own t)
-      ∙ ap some (join_at t)
+      ap (λ (b : Bool). pick b (Some (get_or (joined r t) (place_of r.tag r.id (joined r t)) no_raw)) None) (join_own t)
+      ∙ ap Some (join_at t)
 
 -- ---- and what is held of another key stays
 module _ (r : Raw) (tag id : ℕ) (apart : has_key tag id r ≡ false) where
@@ -115,7 +115,7 @@ module _ (r : Raw) (tag id : ℕ) (apart : has_key tag id r ≡ false) where
 
   pub join_other : (t : List Raw) → held_of tag id (joined r t) ≡ held_of tag id t
   unfolding held_of
-  join_other t = ap₂ (λ (b : Bool) (x : Raw). pick b (some x) none) (holds-other t) (at_other t)
+  join_other t = ap₂ (λ (b : Bool) (x : Raw). pick b (Some x) None) (holds-other t) (at_other t)
 
 -- ---- the records that a table shows
 abbrev pub records_in : Table → List Raw
@@ -149,25 +149,25 @@ module _ (credential current : ℕ) where
     unfolding start_of
     spent-tries h =
         let now : start_of (held_of counter_tag credential (joined (counter_record credential (one_more s)) t)) current ≡ one_more s =
-        ap (λ (o : OptRaw). start_of o current) (join_held (counter_record credential (one_more s)) t) ∙ counter-read (one_more s) in
+        ap (λ (o : Option Raw). start_of o current) (join_held (counter_record credential (one_more s)) t) ∙ counter-read (one_more s) in
         ap (λ (x : CounterState). remaining_of x + 1) now ∙ omega (arith, failure_takes_one s h)
 
     -- a write is of that record, and with tries left; without one the tries are none, or it is a refusal
-    pub spend-writes : d.write ≡ true → (0 < remaining_of s) × (d.rec ≡ counter_record credential (one_more s))
+    pub spend-writes : writes_record d ≡ true → (0 < remaining_of s) × (record_in d ≡ counter_record credential (one_more s))
     unfolding spend_from failed_of
     spend-writes = go (eqb (remaining_of s) 0) refl
       where
         go : (b : Bool) → eqb (remaining_of s) 0 ≡ b
-            → (pick b (give 0)
+            → writes_record (pick b (give 0)
             (spent_by (room_for counter_tag credential t) credential (remaining_of s)
-            (pick (eqb s.total total_max) (next.Refused WriteError) (next.State (one_more s))))
-            ).write
+            (pick (eqb s.total total_max) (Err WriteError) (Ok (one_more s))))
+            )
             ≡ true
             → (0 < remaining_of s)
-            × ((pick b (give 0)
+            × (record_in (pick b (give 0)
             (spent_by (room_for counter_tag credential t) credential (remaining_of s)
-            (pick (eqb s.total total_max) (next.Refused WriteError) (next.State (one_more s))))
-            ).rec
+            (pick (eqb s.total total_max) (Err WriteError) (Ok (one_more s))))
+            )
             ≡ counter_record credential (one_more s))
         go true e h = absurd (false≢true h)
         go false e h = (left, by_total (eqb s.total total_max) h)
@@ -176,32 +176,32 @@ module _ (credential current : ℕ) where
             left = let some_left = eqb-false (remaining_of s) 0 e in omega arith
 
             by_total : (c : Bool)
-                → (spent_by (room_for counter_tag credential t) credential (remaining_of s)
-                (pick c (next.Refused WriteError) (next.State (one_more s)))).write
+                → writes_record (spent_by (room_for counter_tag credential t) credential (remaining_of s)
+                (pick c (Err WriteError) (Ok (one_more s))))
                 ≡ true
-                → (spent_by (room_for counter_tag credential t) credential (remaining_of s)
-                (pick c (next.Refused WriteError) (next.State (one_more s)))).rec
+                → record_in (spent_by (room_for counter_tag credential t) credential (remaining_of s)
+                (pick c (Err WriteError) (Ok (one_more s))))
                 ≡ counter_record credential (one_more s)
             by_total true h = absurd (false≢true h)
             by_total false h =
-                by_test (λ (x : Decision). x.write ≡ true → x.rec ≡ counter_record credential (one_more s))
+                by_test (λ (x : Decision). writes_record x ≡ true → record_in x ≡ counter_record credential (one_more s))
                 (room_for counter_tag credential t) _ _ (λ _ _. refl) (λ _ k. absurd (false≢true k)) h
 
-    pub spend-refuses : 0 < remaining_of s → d.write ≡ false → is_done d.answer ≡ false
+    pub spend-refuses : 0 < remaining_of s → writes_record d ≡ false → is_done (answer_in d) ≡ false
     unfolding spend_from failed_of
     spend-refuses h = rw (ne_eqb (remaining_of s) 0 (λ e. omega arith)) (by_total (eqb s.total total_max))
       where
         by_total : (c : Bool)
-            → (spent_by (room_for counter_tag credential t) credential (remaining_of s)
-            (pick c (next.Refused WriteError) (next.State (one_more s)))).write
+            → writes_record (spent_by (room_for counter_tag credential t) credential (remaining_of s)
+            (pick c (Err WriteError) (Ok (one_more s))))
             ≡ false
             → is_done
-            (spent_by (room_for counter_tag credential t) credential (remaining_of s)
-            (pick c (next.Refused WriteError) (next.State (one_more s)))).answer
+            (answer_in (spent_by (room_for counter_tag credential t) credential (remaining_of s)
+            (pick c (Err WriteError) (Ok (one_more s)))))
             ≡ false
         by_total true h = refl
         by_total false h =
-            by_test (λ (x : Decision). x.write ≡ false → is_done x.answer ≡ false) (room_for counter_tag credential t) _ _
+            by_test (λ (x : Decision). writes_record x ≡ false → is_done (answer_in x) ≡ false) (room_for counter_tag credential t) _ _
             (λ _ k. absurd (false≢true (sym k))) (λ _ _. refl) h
 
   -- the tries in the table that the decision leads to
@@ -215,59 +215,55 @@ module _ (credential current : ℕ) where
     later-tries : (image : List ℕ) → Inv image log → (z : State)
         → (tries_of (records_in (decided_table (made z) log)) ≡ tries_of t₀)
         ⊎ (tries_of (records_in (decided_table (made z) log)) + 1 ≡ tries_of t₀)
-    later-tries image i z = go (made z).write refl
+    later-tries image i z = go (writes_record (made z)) refl
       where
-        by-write : (y : State) → (made y).write ≡ true → tries_of (joined (made y).rec t₀) + 1 ≡ tries_of t₀
+        by-write : (y : State) → writes_record (made y) ≡ true → tries_of (joined (record_in (made y)) t₀) + 1 ≡ tries_of t₀
         by-write Unformatted e = absurd (false≢true e)
         by-write Failed e = absurd (false≢true e)
         by-write (Active sector seq head) e =
             let w = spend-writes t₀ e in
             ap (λ (r : Raw). tries_of (joined r t₀) + 1) w.1 ∙ spent-tries t₀ w.0
 
-        go : (b : Bool) → (made z).write ≡ b
-            → (tries_of (records_in (pick b (holding (joined (made z).rec t₀)) (table_of log))) ≡ tries_of t₀)
-            ⊎ (tries_of (records_in (pick b (holding (joined (made z).rec t₀)) (table_of log))) + 1 ≡ tries_of t₀)
+        go : (b : Bool) → writes_record (made z) ≡ b
+            → (tries_of (records_in (pick b (holding (joined (record_in (made z)) t₀)) (table_of log))) ≡ tries_of t₀)
+            ⊎ (tries_of (records_in (pick b (holding (joined (record_in (made z)) t₀)) (table_of log))) + 1 ≡ tries_of t₀)
         go true e = inr (by-write z e)
         go false e = inl (ap tries_of (sym (shown_records image log i)))
 
     -- where tries were left and the answer is 0, one is taken
-    taken-tries : (z : State) → 0 < tries_of t₀ → ((made z).write ≡ false → is_done (made z).answer ≡ true)
+    taken-tries : (z : State) → 0 < tries_of t₀ → (writes_record (made z) ≡ false → is_done (answer_in (made z)) ≡ true)
         → tries_of (records_in (decided_table (made z) log)) + 1 ≡ tries_of t₀
     taken-tries Unformatted h e = absurd (false≢true (e refl))
     taken-tries Failed h e = absurd (false≢true (e refl))
-    taken-tries (Active sector seq head) h e = go (d t₀).write refl
+    taken-tries (Active sector seq head) h e = go (writes_record (d t₀)) refl
       where
-        go : (b : Bool) → (d t₀).write ≡ b → tries_of (records_in (pick b (holding (joined (d t₀).rec t₀)) (table_of log))) + 1 ≡ tries_of t₀
+        go : (b : Bool) → writes_record (d t₀) ≡ b → tries_of (records_in (pick b (holding (joined (record_in (d t₀)) t₀)) (table_of log))) + 1 ≡ tries_of t₀
         go true k = let w = spend-writes t₀ k in ap (λ (r : Raw). tries_of (joined r t₀) + 1) w.1 ∙ spent-tries t₀ h
         go false k = absurd (false≢true (sym (spend-refuses t₀ h k) ∙ e k))
 
 -- ---- an answer 0 without a write was the decision's
-module _ (image : List ℕ) (log : Log) (plan : Plan) (known : Bool) (tag id : ℕ) (comes_to : OptRaw → Bool → Decision) where
+module _ (image : List ℕ) (log : Log) (plan : Plan) (known : Bool) (tag id : ℕ) (comes_to : Option Raw → Bool → Decision) where
   abbrev settled : Decision
   settled = when_active log.state (comes_to (held_of tag id (records_of log)) (room_for tag id (records_of log)))
 
-  pub keyed-answered : is_done (entered image log plan known (decided tag id comes_to)).answer ≡ true → settled.write ≡ false
-      → is_done settled.answer ≡ true
+  pub keyed-answered : is_done (entered image log plan known (decided tag id comes_to)).answer ≡ true → writes_record settled ≡ false
+      → is_done (answer_in settled) ≡ true
   unfolding entered performed
   keyed-answered e k = go (is_done (entry_answer (sectors_in (length image)) log known)) e refl
     where
+      answered : (d : Decision) → is_done (performed d (sectors_in (length image)) log (flash_of image plan)).answer ≡ true
+          → writes_record d ≡ false → is_done (answer_in d) ≡ true
+      answered (Refuse x) e k = e
+      answered (Give value) e k = e
+      answered (Write r value) e k = absurd (false≢true (sym k))
+
       go : (b : Bool)
           → is_done
           (pick b (performed settled (sectors_in (length image)) log (flash_of image plan))
           (refused (entry_answer (sectors_in (length image)) log known) log (flash_of image plan))).answer
           ≡ true
-          → is_done (entry_answer (sectors_in (length image)) log known) ≡ b → is_done settled.answer ≡ true
-      go true e z =
-          sym
-          (ap
-          (λ (x : Bool).
-          is_done
-          (pick x
-          (appended log.state (sectors_in (length image)) settled.rec settled.value log (flash_of image plan))
-          (record { answer = settled.answer; value = settled.value; log = log; flash = flash_of image plan })
-          ).answer)
-          k)
-          ∙ e
+          → is_done (entry_answer (sectors_in (length image)) log known) ≡ b → is_done (answer_in settled) ≡ true
+      go true e z = answered settled e k
       go false e z = absurd (false≢true (sym z ∙ e))
 
 -- ---- the call
@@ -288,7 +284,7 @@ module _ (w : World) (i : Inv w.image w.log) (credential current : ℕ) (fits : 
   unfolding spend_of
   safe =
       keyed-decided w.image log i (is_credential credential) counter_tag credential
-      (λ (held : OptRaw) (room : Bool). spend_decision held room credential current)
+      (λ (held : Option Raw) (room : Bool). spend_decision held room credential current)
       (λ t. counter_record credential (one_more (start_of (held_of counter_tag credential t) current))) (spend-sound credential current fits small) plan
 
   module _ (x : Log) (j : Inv o.flash.image x) where
@@ -330,7 +326,7 @@ module _ (w : World) (i : Inv w.image w.log) (credential current : ℕ) (fits : 
             ap (λ (m : ℕ). m + 1) (found-tries o.log j (decided_table decided-on log) d.1)
             ∙ taken-tries credential current log log.state h
             (keyed-answered w.image log plan (is_credential credential) counter_tag credential
-            (λ (held : OptRaw) (room : Bool). spend_decision held room credential current) e);
+            (λ (held : Option Raw) (room : Bool). spend_decision held room credential current) e);
       }
       go (lasted on z j (inr d)) = record {
         either = λ _. inl (before-tries o.log j d.1);

@@ -1,4 +1,6 @@
 -- An append is safe: each try that is refused leaves the log as it was but for head, and only the try that is cut asks that no chance match occurs.
+use Rattle.std.specs.Prelude.{None, Err}
+use Rattle.basics.specs.Answers.{all_done, is_done, Answer}
 use mathlib.Core.Path.{◌≡◌, refl, sym, ap, subst, ◌∙◌}
 use mathlib.Core.Bool.{Bool, true, false, false≢true}
 use mathlib.Core.List.{List, []}
@@ -13,14 +15,12 @@ use borrow.Author.Tests.{eqb-true, eqb-false}
 use Rattle.basics.specs.Choice.{pick}
 use Rattle.basics.specs.Lists.{part}
 use Rattle.basics.specs.Little.{le_number}
-use Rattle.basics.specs.Answers.{is_done}
-use Rattle.basics.specs.declared.Answer.{Answer}
-use Rattle.basics.specs.declared.Answer.TheVariants.{Done, WriteError}
+use Rattle.basics.specs.declared.Refusal.TheVariants.{WriteError}
 use Rattle.basics.proofs.ChoiceLaws.{by_test}
 use Rattle.basics.proofs.ListsLaws.{bytes_take, bytes_drop}
 use Rattle.basics.proofs.LittleLaws.{le_fits}
 use Rattle.codec.specs.declared.Raw.{Raw}
-use Rattle.codec.specs.Slots.{slot_of, header_of, decoded, none}
+use Rattle.codec.specs.Slots.{slot_of, header_of, decoded}
 use Rattle.codec.proofs.SlotsRoundTrip.{header_sealed}
 use Rattle.flash.specs.Image.{sectors_in, slot_at, with_slot}
 use Rattle.flash.specs.Run.{Flash, Stepped, program}
@@ -161,7 +161,7 @@ module _ (n s seq : ℕ) (r : Raw) (old : List Raw) (w : Writable r old) (next :
             ∙ with-slot-here n image size s g.found.placed.within head room (cut_at k slot) sixteen
             ∙ ap (λ (j : ℕ). cut_at j slot) (sym e))
 
-        go : (decoded seq (cut_at k slot) ≡ none) ⊎ (cut_at k slot ≡ slot) → (Here left (head + 1) old) ⊎ (Here left (head + 1) new)
+        go : (decoded seq (cut_at k slot) ≡ None) ⊎ (cut_at k slot ≡ slot) → (Here left (head + 1) old) ⊎ (Here left (head + 1) new)
         go (inl e) =
             let sixteen = slot-sixteen seq fits r w.whole in
             inl
@@ -205,7 +205,7 @@ module _ (n s seq : ℕ) (r : Raw) (old : List Raw) (w : Writable r old) (next :
     one_try : (head : ℕ) (f : Flash) (o : Stepped) (rest : SlotTries) → head < 256 → low ≤ head → Here f.image head old → Ran s head slot f o
         → (o.flash.cut ≡ false → Here o.flash.image (head + 1) old → Fails o.answer → Attempted rest)
         → (Cut o.flash → Fails o.answer → StillTried o.flash rest)
-        → Attempted (pick (is_done o.answer) (record { full = false; answer = Done; head = head + 1; flash = o.flash }) rest)
+        → Attempted (pick (is_done o.answer) (record { full = false; answer = all_done; head = head + 1; flash = o.flash }) rest)
     one_try head f o rest h under g (Ran.refused i e c is) on still =
         rw e (on c (subst (λ (l : List ℕ). Here l (head + 1) old) (sym is) (here-past f.image head g h)) e)
     one_try head f o rest h under g (Ran.done i e c is u) on still = rw e (written refl refl c (here-whole f.image head g h o.flash.image is))
@@ -239,7 +239,7 @@ module _ (n s seq : ℕ) (r : Raw) (old : List Raw) (w : Writable r old) (next :
     -- ---- the append
     pub append-safe : (f : Flash) → f.cut ≡ false → Here f.image low old → Safe n Lucky P old new (append_of n s seq low next r new f)
     unfolding append_of
-    append-safe f on g = go (tries_from 3 s low slot WriteError f) (tries_attempted 3 low WriteError f (omega arith) on refl g)
+    append-safe f on g = go (tries_from 3 s low slot (Err WriteError) f) (tries_attempted 3 low (Err WriteError) f (omega arith) on refl g)
       where
         go : (o : SlotTries) → Attempted o
             → Safe n Lucky P old new
@@ -248,13 +248,13 @@ module _ (n s seq : ℕ) (r : Raw) (old : List Raw) (w : Writable r old) (next :
         go o (filled e l c i) =
             rw e
             (commit-safe n s Lucky P (Active s seq o.head) refl old new
-            (join_proper r old w.whole w.tagged w.room g.proper) p n (sector_after n s) WriteError next o.flash
+            (join_proper r old w.whole w.tagged w.room g.proper) p n (sector_after n s) (Err WriteError) next o.flash
             (after-within n s g.found.placed.within) c refl i)
         go o (written e d c i) = rw e (done d c i refl)
         go o (refused e d c i) = rw e (failed d c i p)
         go o (cut d c i) =
             by_test (Safe n Lucky P old new) o.full _ _
             (λ _.
-            let z = commit_still n n s (sector_after n s) new WriteError (Active s seq o.head) next o.flash c refl in
+            let z = commit_still n n s (sector_after n s) new (Err WriteError) (Active s seq o.head) next o.flash c refl in
             stopped z.fails z.cut (λ lucky. subst Woken (sym z.same) (i (subst Lucky z.same lucky))))
             (λ _. stopped d c i)

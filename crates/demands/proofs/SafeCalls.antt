@@ -1,4 +1,7 @@
 -- Every call is safe: tests first, then the decision or the format, and the table after it is the one that a healthy flash reaches.
+use Rattle.std.specs.Prelude.{Result, is_ok, Option, Err}
+use Rattle.basics.specs.declared.Refusal.{Refusal}
+use Rattle.demands.specs.Calls.{anchor_raw}
 use mathlib.Core.Path.{◌≡◌, refl, sym, ap, subst}
 use mathlib.Core.Bool.{Bool, true, false, false≢true}
 use mathlib.Core.List.{List, [], ◌∷◌}
@@ -10,13 +13,11 @@ use lib.ListN.{length, take, length-take}
 use borrow.Author.Tests.{eqb-true, leb-true}
 use Rattle.basics.specs.Choice.{pick}
 use Rattle.basics.specs.Answers.{is_done}
-use Rattle.basics.specs.declared.Answer.TheVariants.{NotFormatted}
+use Rattle.basics.specs.declared.Refusal.TheVariants.{NotFormatted}
 use Rattle.basics.proofs.ChoiceLaws.{first, by_test}
 use Rattle.ids.specs.declared.Anchor.{Anchor}
 use Rattle.ids.specs.Ids.{anchor_tag}
 use Rattle.codec.specs.declared.Raw.{Raw}
-use Rattle.codec.specs.declared.OptRaw.{OptRaw}
-use Rattle.bodies.specs.Bodies.{anchor_record}
 use Rattle.bodies.proofs.BodiesRoundTrip.{anchor-made}
 use Rattle.flash.specs.declared.Plan.{Plan}
 use Rattle.flash.specs.Image.{sectors_in}
@@ -24,11 +25,11 @@ use Rattle.flash.specs.Run.{Flash}
 use Rattle.records.specs.declared.State.{State}
 use Rattle.records.specs.declared.State.TheVariants.{Unformatted, Failed, Active}
 use Rattle.records.specs.declared.Log.{Log}
-use Rattle.records.specs.Table.{joined}
+use Rattle.records.specs.Table.{joined, held_of}
 use Rattle.records.specs.Logs.{records_of}
 use Rattle.decisions.specs.declared.Decision.{Decision}
-use Rattle.decisions.specs.Decisions.{when_active, anchor_decision}
-use Rattle.reads.specs.Entering.{entry_answer, held_of, room_for}
+use Rattle.decisions.specs.Decisions.{when_active, anchor_decision, writes_record, record_in}
+use Rattle.reads.specs.Entering.{entry_answer, room_for}
 use Rattle.reads.proofs.EnteringLaws.{let_in_by}
 use Rattle.decisions.specs.declared.seeds.Seed.{Seed}
 use Rattle.decisions.specs.Seeds.{all_known, seeds_known, seed_table}
@@ -82,17 +83,17 @@ module _ (image : List ℕ) (log : Log) (i : Inv image log) (known : Bool) (call
 
 -- ---- a call that decides on the record of a key
 module _ (image : List ℕ) (log : Log) (i : Inv image log) where
-  abbrev decision : (tag id : ℕ) → (OptRaw → Bool → Decision) → Decision
+  abbrev decision : (tag id : ℕ) → (Option Raw → Bool → Decision) → Decision
   decision tag id d = when_active log.state (d (held_of tag id (records_of log)) (room_for tag id (records_of log)))
 
-  active-writes : (d : Decision) (r : Raw) → (d.write ≡ true → WritesRecord d r (records_of log)) → (z : State)
-      → (when_active z d).write ≡ true → WritesRecord (when_active z d) r (records_of log)
+  active-writes : (d : Decision) (r : Raw) → (writes_record d ≡ true → WritesRecord d r (records_of log)) → (z : State)
+      → writes_record (when_active z d) ≡ true → WritesRecord (when_active z d) r (records_of log)
   active-writes d r sound Unformatted e = absurd (false≢true e)
   active-writes d r sound Failed e = absurd (false≢true e)
   active-writes d r sound (Active sector seq head) e = sound e
 
-  module _ (known : Bool) (tag id : ℕ) (d : OptRaw → Bool → Decision) (r : List Raw → Raw) (sound : Sound tag id d r) where
-    made-writes : (decision tag id d).write ≡ true → WritesRecord (decision tag id d) (r (records_of log)) (records_of log)
+  module _ (known : Bool) (tag id : ℕ) (d : Option Raw → Bool → Decision) (r : List Raw → Raw) (sound : Sound tag id d r) where
+    made-writes : writes_record (decision tag id d) ≡ true → WritesRecord (decision tag id d) (r (records_of log)) (records_of log)
     made-writes =
         active-writes (d (held_of tag id (records_of log)) (room_for tag id (records_of log))) (r (records_of log))
         (sound (records_of log) i.agrees.proper.whole) log.state
@@ -166,41 +167,41 @@ module _ (image : List ℕ) (log : Log) (i : Inv image log) where
   -- ---- put_anchor
   module _ (new : Anchor) (typed : TypedAnchor new) where
     abbrev r : Raw
-    r = (anchor_record new).raw
+    r = anchor_raw new
 
     abbrev deciding : Log → Decision
     deciding l = when_active l.state (anchor_decision (held_of anchor_tag 0 (records_of l)) (room_for anchor_tag 0 (records_of l)) new)
 
     -- the first anchor has head_seq 0, and so a record
-    first-writes : is_first new ≡ true → (l : Log) → table_of l ≡ holding [] → ((deciding l).write ≡ true) × ((deciding l).rec ≡ r)
+    first-writes : is_first new ≡ true → (l : Log) → table_of l ≡ holding [] → (writes_record (deciding l) ≡ true) × (record_in (deciding l) ≡ r)
     first-writes f l e = go l.state e
       where
         made : (t : List Raw) → t ≡ []
-            → ((anchor_decision (held_of anchor_tag 0 t) (room_for anchor_tag 0 t) new).write ≡ true)
-            × ((anchor_decision (held_of anchor_tag 0 t) (room_for anchor_tag 0 t) new).rec ≡ r)
+            → (writes_record (anchor_decision (held_of anchor_tag 0 t) (room_for anchor_tag 0 t) new) ≡ true)
+            × (record_in (anchor_decision (held_of anchor_tag 0 t) (room_for anchor_tag 0 t) new) ≡ r)
         made t z =
             let zero-seq = eqb-true new.head_seq 0 (first (eqb new.head_seq 0) (eqb new.head_slot 0) f) in
             subst
             (λ (x : List Raw).
-            ((anchor_decision (held_of anchor_tag 0 x) (room_for anchor_tag 0 x) new).write ≡ true)
-            × ((anchor_decision (held_of anchor_tag 0 x) (room_for anchor_tag 0 x) new).rec ≡ r))
+            (writes_record (anchor_decision (held_of anchor_tag 0 x) (room_for anchor_tag 0 x) new) ≡ true)
+            × (record_in (anchor_decision (held_of anchor_tag 0 x) (room_for anchor_tag 0 x) new) ≡ r))
             (sym z)
-            (anchor-first-writes new (ap is_done (anchor-made new (omega arith))))
+            (anchor-first-writes new (ap (λ (m : Result Raw Refusal). is_ok m) (anchor-made new (omega arith))))
 
         go : (z : State) → table_in (seen_by z (records_of l)) ≡ holding []
-            → ((when_active z (anchor_decision (held_of anchor_tag 0 (records_of l)) (room_for anchor_tag 0 (records_of l)) new)).write ≡ true)
-            × ((when_active z (anchor_decision (held_of anchor_tag 0 (records_of l)) (room_for anchor_tag 0 (records_of l)) new)).rec ≡ r)
+            → (writes_record (when_active z (anchor_decision (held_of anchor_tag 0 (records_of l)) (room_for anchor_tag 0 (records_of l)) new)) ≡ true)
+            × (record_in (when_active z (anchor_decision (held_of anchor_tag 0 (records_of l)) (room_for anchor_tag 0 (records_of l)) new)) ≡ r)
         go Unformatted z = let never : ◌≡◌ {A = ℕ} 0 1 = cc in absurd (omega arith)
         go Failed z = let never : ◌≡◌ {A = ℕ} 0 1 = cc in absurd (omega arith)
         go (Active sector seq head) z = made (records_of l) cc
 
-    sound : (l : Log) → (deciding l).write ≡ true → Writable (deciding l).rec (records_of l)
+    sound : (l : Log) → writes_record (deciding l) ≡ true → Writable (record_in (deciding l)) (records_of l)
     sound l e = go l.state e
       where
         made : Decision
         made = anchor_decision (held_of anchor_tag 0 (records_of l)) (room_for anchor_tag 0 (records_of l)) new
 
-        go : (z : State) → (when_active z made).write ≡ true → Writable (when_active z made).rec (records_of l)
+        go : (z : State) → writes_record (when_active z made) ≡ true → Writable (record_in (when_active z made)) (records_of l)
         go Unformatted z = absurd (false≢true z)
         go Failed z = absurd (false≢true z)
         go (Active sector seq head) z = writes_writable made r (records_of l) (anchor-writes new typed (records_of l) z)
@@ -230,7 +231,7 @@ module _ (image : List ℕ) (log : Log) (i : Inv image log) where
           own f z (inr k) = inr (f, k)
 
           call : Bool → ℕ → Log → Flash → Outcome
-          call b n l f = pick b (anchored_first new n (formatted [] n l f)) (refused NotFormatted l f)
+          call b n l f = pick b (anchored_first new n (formatted [] n l f)) (refused (Err NotFormatted) l f)
 
           go : (b : Bool) → is_first new ≡ b
               → SafeCall n C (AnchorNoEffect Unformatted new log) (table_of (entered image log healthy true (call b)).log)
@@ -248,7 +249,7 @@ module _ (image : List ℕ) (log : Log) (i : Inv image log) where
           (λ _. refusal-safe Always (λ x. x ≡ seen log) _ refl i refl (table_of log) refl) (λ _. inr (λ g. (refl, refl)))
       state_says (Active sector seq head) e =
           let keyed =
-          keyed-safe true anchor_tag 0 (λ (held : OptRaw) (room : Bool). anchor_decision held room new) (λ t. r) (anchor-sound new typed)
+          keyed-safe true anchor_tag 0 (λ (held : Option Raw) (room : Bool). anchor_decision held room new) (λ t. r) (anchor-sound new typed)
           plan in
           subst
           (λ (z : State).

@@ -1,4 +1,6 @@
 -- A commit is safe: while power lasts it leaves the log that it answers, and where it stops the image wakes with the table of before or of after.
+use Rattle.std.specs.Prelude.{Some, None}
+use Rattle.basics.specs.Answers.{all_done, is_done, Answer}
 use mathlib.Core.Path.{◌≡◌, refl, sym, ap, subst, ◌∙◌}
 use mathlib.Core.Bool.{true, false, false≢true}
 use mathlib.Core.List.{List, []}
@@ -9,12 +11,8 @@ use lib.Dec.{eqb}
 use lib.ListN.{length}
 use borrow.Author.Tests.{eqb-false}
 use Rattle.basics.specs.Choice.{pick}
-use Rattle.basics.specs.Answers.{is_done}
-use Rattle.basics.specs.declared.Answer.{Answer}
-use Rattle.basics.specs.declared.Answer.TheVariants.{Done}
 use Rattle.basics.proofs.ChoiceLaws.{by_test}
 use Rattle.codec.specs.declared.Raw.{Raw}
-use Rattle.codec.specs.declared.Header.TheVariants.{Valid, Invalid}
 use Rattle.codec.specs.Slots.{header_of}
 use Rattle.flash.specs.Image.{sectors_in, slot_at}
 use Rattle.flash.specs.Run.{Flash, Stepped}
@@ -47,7 +45,7 @@ module _ (n a : ℕ) (image : List ℕ) (next : ℕ) (t : List Raw) where
   spared_found : (state : State) → Avoids state n a → Found state n image next t → (left : List ℕ) → Spared n a image left → Found state n left next t
   spared_found Unformatted v f left k = (f.0, f.1, λ s u. go s u (k.others s u))
     where
-      go : (s : ℕ) → s < n → (header_at 2 left s ≡ header_at 2 image s) ⊎ (header_at 2 left s ≡ Invalid) → header_at 2 left s ≡ Invalid
+      go : (s : ℕ) → s < n → (header_at 2 left s ≡ header_at 2 image s) ⊎ (header_at 2 left s ≡ None) → header_at 2 left s ≡ None
       go s u (inl e) = e ∙ f.2 s u
       go s u (inr e) = e
   spared_found Failed v f left k = absurd v
@@ -66,7 +64,7 @@ module _ (n a : ℕ) (image : List ℕ) (next : ℕ) (t : List Raw) where
       own : (i : ℕ) → i < 256 → slot_at left s i ≡ slot_at image s i
       own = subst (λ (b : ℕ). (i : ℕ) → i < 256 → slot_at left b i ≡ slot_at image b i) v k.own
 
-      beats : (y p : ℕ) → y < n → header_at 2 left y ≡ Valid p → (header_at 2 left y ≡ header_at 2 image y) ⊎ (header_at 2 left y ≡ Invalid)
+      beats : (y p : ℕ) → y < n → header_at 2 left y ≡ Some p → (header_at 2 left y ≡ header_at 2 image y) ⊎ (header_at 2 left y ≡ None)
           → (p < seq) ⊎ ((p ≡ seq) × (s ≤ y))
       beats y p u e (inl h) = f.wins.beats y p u (sym h ∙ e)
       beats y p u e (inr h) = absurd (valid_invalid (header_at 2 left y) p h e)
@@ -194,7 +192,7 @@ module _ (n a : ℕ) (C : List ℕ → Type 0) (P : Seen → Type 0) (state : St
       → Sectored n a s next new f o
       → (o.flash.cut ≡ false → Agrees n o.flash.image state (next + 1) old → Fails o.answer → Fine rest)
       → (Cut o.flash → Fails o.answer → StillWrote o.flash rest)
-      → Fine (pick (is_done o.answer) (record { answer = Done; state = Active s next (length new + 1); next = next + 1; flash = o.flash }) rest)
+      → Fine (pick (is_done o.answer) (record { answer = all_done; state = Active s next (length new + 1); next = next + 1; flash = o.flash }) rest)
   one-sector s next f o rest m g (Sectored.failed i e c k) on still =
       rw e (on c (agrees-raised n a o.flash.image next old state v (agrees_spared n a f.image next old state v g o.flash.image k) m) e)
   one-sector s next f o rest m g (Sectored.done i e c k u) on still =

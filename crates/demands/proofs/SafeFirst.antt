@@ -1,4 +1,5 @@
 -- The first anchor: an empty format, and then the record. It is safe too, but that its own format may stand.
+use Rattle.std.specs.Prelude.{Err}
 use mathlib.Core.Path.{◌≡◌, refl, sym, ap, ap₂, subst, ◌∙◌}
 use mathlib.Core.Bool.{Bool, true, false, false≢true}
 use mathlib.Core.List.{List, []}
@@ -10,7 +11,7 @@ use lib.ListN.{length}
 use borrow.Author.Tests.{eqb-true, eqb-false}
 use Rattle.basics.specs.Choice.{pick}
 use Rattle.basics.specs.Answers.{is_done}
-use Rattle.basics.specs.declared.Answer.TheVariants.{WriteError}
+use Rattle.basics.specs.declared.Refusal.TheVariants.{WriteError}
 use Rattle.codec.specs.declared.Raw.{Raw}
 use Rattle.flash.specs.Image.{sectors_in}
 use Rattle.flash.specs.Run.{Flash}
@@ -21,6 +22,7 @@ use Rattle.records.specs.Table.{joined}
 use Rattle.records.specs.Logs.{log_of, records_of}
 use Rattle.records.specs.Fitting.{seq_max}
 use Rattle.decisions.specs.declared.Decision.{Decision}
+use Rattle.decisions.specs.Decisions.{writes_record, record_in}
 use Rattle.decisions.specs.Outcomes.{Outcome}
 use Rattle.decisions.specs.Performing.{performed, formatted}
 use Rattle.demands.specs.Chance.{Unmatched}
@@ -52,12 +54,12 @@ OrEmpty log z = (z ≡ seen log) ⊎ (table_in z ≡ holding [])
 abbrev pub format_then : (Log → Decision) → ℕ → Outcome → Outcome
 format_then decide n o = pick (is_done o.answer) (performed (decide o.log) n o.log o.flash) o
 
-module _ (decide : Log → Decision) (sound : (l : Log) → (decide l).write ≡ true → Writable (decide l).rec (records_of l))
-    (r : Raw) (decides : (l : Log) → table_of l ≡ holding [] → ((decide l).write ≡ true) × ((decide l).rec ≡ r))
+module _ (decide : Log → Decision) (sound : (l : Log) → writes_record (decide l) ≡ true → Writable (record_in (decide l)) (records_of l))
+    (r : Raw) (decides : (l : Log) → table_of l ≡ holding [] → (writes_record (decide l) ≡ true) × (record_in (decide l) ≡ r))
     (log : Log) (unformatted : log.state ≡ Unformatted) where
   decided-table : (l : Log) → table_of l ≡ holding [] → decided_table (decide l) l ≡ holding (joined r [])
   decided-table l e =
-      ap (λ (b : Bool). pick b (holding (joined (decide l).rec (records_of l))) (table_of l)) (decides l e).0
+      ap (λ (b : Bool). pick b (holding (joined (record_in (decide l)) (records_of l))) (table_of l)) (decides l e).0
       ∙ ap₂ (λ (x : Raw) (t : List Raw). holding (joined x t)) (decides l e).1 (none-held l e)
 
   module _ (n : ℕ) where
@@ -120,7 +122,7 @@ module _ (decide : Log → Decision) (sound : (l : Log) → (decide l).write ≡
           let appends =
           performed-appends o.flash l c j x.healthy (decide l) writes.0 (sound l writes.0) 0 next 1
           (ap (λ (y : Log). y.state) x.log_is) (omega arith) in
-          let table = joined (decide l).rec (records_of l) in
+          let table = joined (record_in (decide l)) (records_of l) in
           ap (λ (b : Bool). table_of (pick b (performed (decide l) n l o.flash) o).log) d.0
           ∙ ap (λ (m : ℕ). table_of (performed (decide l) m l o.flash).log) (sym z)
           ∙ ap table_of appends.log_is
@@ -130,7 +132,7 @@ module _ (decide : Log → Decision) (sound : (l : Log) → (decide l).write ≡
   idle : (n : ℕ) (f : Flash) → log.next_seq ≡ seq_max
       → ((format_then decide n (formatted [] n log f)).flash ≡ f) × Fails (format_then decide n (formatted [] n log f)).answer
   idle n f e =
-      let x = commit-used-idle n n n 0 [] WriteError log.state log.next_seq f refl e in
+      let x = commit-used-idle n n n 0 [] (Err WriteError) log.state log.next_seq f refl e in
       rw x.fails (x.flash-is, x.fails)
 
   pub first-attains : (image : List ℕ) → Inv image log

@@ -6,7 +6,8 @@ use mathlib.Core.Logic.{◌⊎◌, inl, inr}
 use Prim.Native.Nat.{ℕ}
 use lib.ListN.{length}
 use Rattle.basics.specs.Choice.{pick}
-use Rattle.basics.specs.Answers.{is_done}
+use Rattle.std.specs.Prelude.{Err}
+use Rattle.basics.specs.Answers.{all_done, is_done}
 use Rattle.codec.specs.declared.Raw.{Raw}
 use Rattle.flash.specs.Image.{sectors_in}
 use Rattle.flash.specs.Run.{Flash}
@@ -18,7 +19,9 @@ use Rattle.records.specs.Logs.{log_of, records_of}
 use Rattle.records.proofs.LogsPlaces.{places-take}
 use Rattle.sectors.specs.Commits.{Written, commit_first}
 use Rattle.decisions.specs.declared.Decision.{Decision}
-use Rattle.decisions.specs.Outcomes.{Outcome}
+use Rattle.decisions.specs.declared.Decision.TheVariants.{Refuse, Give, Write}
+use Rattle.decisions.specs.Decisions.{writes_record, record_in}
+use Rattle.decisions.specs.Outcomes.{Outcome, refused}
 use Rattle.decisions.specs.Performing.{written_outcome, appended, performed, formatted}
 use Rattle.demands.specs.Chance.{Unmatched}
 use Rattle.demands.specs.Seen.{Seen, seen_by, seen, Table, holding, table_in, table_of}
@@ -100,15 +103,15 @@ wrote-safe n C P old new w value (Safe.stopped e c k) = stopped c e (λ d. go (k
 -- ---- what comes of a decision
 -- where a decision writes, it writes r, which may be written
 pub record WritesRecord (d : Decision) (r : Raw) (t : List Raw) : Type 0 where
-  pub rec-is : d.rec ≡ r
+  pub rec-is : record_in d ≡ r
   pub may : Writable r t
 
-pub writes_writable : (d : Decision) (r : Raw) (t : List Raw) → WritesRecord d r t → Writable d.rec t
+pub writes_writable : (d : Decision) (r : Raw) (t : List Raw) → WritesRecord d r t → Writable (record_in d) t
 writes_writable d r t w = subst (λ (x : Raw). Writable x t) (sym w.rec-is) w.may
 
 -- the table that a decision leads to
 abbrev pub decided_table : Decision → Log → Table
-decided_table d log = pick d.write (holding (joined d.rec (records_of log))) (table_of log)
+decided_table d log = pick (writes_record d) (holding (joined (record_in d) (records_of log))) (table_of log)
 
 module _ (f : Flash) (log : Log) (on : f.cut ≡ false) (i : Inv f.image log) where
   abbrev n : ℕ
@@ -127,22 +130,15 @@ module _ (f : Flash) (log : Log) (on : f.cut ≡ false) (i : Inv f.image log) wh
       wrote-safe n (Unmatched (Active s seq head) r) Same (records_of log) (joined r (records_of log)) _ value
       (append-safe n s seq r (records_of log) w log.next_seq head Same before f on here)
 
-  pub performed-safe : (d : Decision) (r : Raw) → (d.write ≡ true → WritesRecord d r (records_of log))
+  pub performed-safe : (d : Decision) (r : Raw) → (writes_record d ≡ true → WritesRecord d r (records_of log))
       → SafeCall n (Unmatched log.state r) Same (decided_table d log) (performed d n log f)
   unfolding performed
-  performed-safe d r sound = go d.write refl
-    where
-      go : (b : Bool) → d.write ≡ b
-          → SafeCall n (Unmatched log.state r) Same (pick b (holding (joined d.rec (records_of log))) (table_of log))
-          (pick b (appended log.state n d.rec d.value log f) (record { answer = d.answer; value = d.value; log = log; flash = f }))
-      go true e =
-          subst
-          (λ (x : Raw).
-          SafeCall n (Unmatched log.state r) Same (holding (joined x (records_of log)))
-          (appended log.state n x d.value log f))
-          (sym (sound e).rec-is)
-          (appended-safe log.state refl r d.value (sound e).may)
-      go false e = unwritten-safe (Unmatched log.state r) Same (record { answer = d.answer; value = d.value; log = log; flash = f }) on i refl
+  performed-safe (Refuse x) r sound = unwritten-safe (Unmatched log.state r) Same (refused (Err x) log f) on i refl
+  performed-safe (Give value) r sound =
+      unwritten-safe (Unmatched log.state r) Same (record { answer = all_done; value = value; log = log; flash = f }) on i refl
+  performed-safe (Write x value) r sound =
+      subst (λ (y : Raw). SafeCall n (Unmatched log.state r) Same (holding (joined y (records_of log))) (appended log.state n y value log f))
+      (sym (sound refl).rec-is) (appended-safe log.state refl r value (sound refl).may)
 
   -- ---- what comes of a format
   pub formatted-safe : log.state ≡ Unformatted → (t : List Raw) → Proper t → SafeCall n Always Same (holding t) (formatted t n log f)

@@ -1,4 +1,5 @@
 -- Writing a sector: while it lasts the other sectors stay as they are and no header of it reads, until the header, last, makes it the winner.
+use Rattle.std.specs.Prelude.{Some, None}
 use mathlib.Core.Path.{◌≡◌, refl, sym, ap, subst, ◌∙◌}
 use mathlib.Core.Bool.{Bool, true, false}
 use mathlib.Core.List.{List, []}
@@ -11,7 +12,6 @@ use lib.Pow.{are_bytes}
 use borrow.Author.Tests.{eqb-true, eqb-false}
 use Rattle.basics.specs.Answers.{is_done}
 use Rattle.codec.specs.declared.Raw.{Raw}
-use Rattle.codec.specs.declared.Header.TheVariants.{Valid, Invalid}
 use Rattle.codec.specs.Slots.{header_slot, header_of}
 use Rattle.codec.proofs.SlotsRoundTrip.{header_read}
 use Rattle.flash.specs.Image.{slot_at, sector_at, with_slot, with_sector}
@@ -37,7 +37,7 @@ pub record Spared (n a : ℕ) (image left : List ℕ) : Type 0 where
   pub size : Fits n left
   pub bytes : T (are_bytes left)
   pub own : (i : ℕ) → i < 256 → slot_at left a i ≡ slot_at image a i
-  pub others : (y : ℕ) → y < n → (header_at 2 left y ≡ header_at 2 image y) ⊎ (header_at 2 left y ≡ Invalid)
+  pub others : (y : ℕ) → y < n → (header_at 2 left y ≡ header_at 2 image y) ⊎ (header_at 2 left y ≡ None)
 
 -- sector x of an image is the newest, and holds t and nothing else
 pub record Newest (n x seq : ℕ) (t : List Raw) (left : List ℕ) : Type 0 where
@@ -54,7 +54,7 @@ pub data Sectored (n a x seq : ℕ) (t : List Raw) (f : Flash) (o : Stepped) : T
 
 -- every valid header has a lower seq
 abbrev pub Below : ℕ → List ℕ → ℕ → Type 0
-Below n image seq = (y p : ℕ) → y < n → header_at 2 image y ≡ Valid p → p < seq
+Below n image seq = (y p : ℕ) → y < n → header_at 2 image y ≡ Some p → p < seq
 
 module _ (n a x seq : ℕ) (within : x < n) (apart : x ≡ a → ⊥) (fits : seq < seq_max) (t : List Raw) (proper : Proper t)
     (f : Flash) (size : Fits n f.image) (bytes : T (are_bytes f.image)) (below : Below n f.image seq) where
@@ -66,7 +66,7 @@ module _ (n a x seq : ℕ) (within : x < n) (apart : x ≡ a → ⊥) (fits : se
 
   -- only sector x changed, and its header is gone
   spared_gone : (left : List ℕ) → Fits n left → T (are_bytes left) → ((y i : ℕ) → (y ≡ x → ⊥) → i < 256 → slot_at left y i ≡ slot_at image y i)
-      → header_at 2 left x ≡ Invalid → Spared n a image left
+      → header_at 2 left x ≡ None → Spared n a image left
   spared_gone left fit b away gone = record {
     size = fit;
     bytes = b;
@@ -74,7 +74,7 @@ module _ (n a x seq : ℕ) (within : x < n) (apart : x ≡ a → ⊥) (fits : se
     others = λ y u. go y (eqb y x) refl;
   }
     where
-      go : (y : ℕ) (c : Bool) → eqb y x ≡ c → (header_at 2 left y ≡ header_at 2 image y) ⊎ (header_at 2 left y ≡ Invalid)
+      go : (y : ℕ) (c : Bool) → eqb y x ≡ c → (header_at 2 left y ≡ header_at 2 image y) ⊎ (header_at 2 left y ≡ None)
       go y true e = inr (ap (header_at 2 left) (eqb-true y x e) ∙ gone)
       go y false e = inl (ap (header_of 2) (away y 0 (eqb-false y x e) (omega arith)))
 
@@ -94,7 +94,7 @@ module _ (n a x seq : ℕ) (within : x < n) (apart : x ≡ a → ⊥) (fits : se
     slots-left : (i : ℕ) → 1 ≤ i → slot_at left x i ≡ slot_at full x i
     slots-left i u = ap (λ (l : List ℕ). slot_at l x i) is ∙ with-slot-beside n full fit x within 0 (omega arith) slot sixteen i (λ z. omega arith)
 
-    unheaded : header_of 2 slot ≡ Invalid → Spared n a image left
+    unheaded : header_of 2 slot ≡ None → Spared n a image left
     unheaded e = spared_gone left put.size put.bytes away-left (own-left ∙ e)
 
     reads-left : read_from (length t + 1 - 1) 1 seq (slot_at left x) (these []) ≡ these t
@@ -103,7 +103,7 @@ module _ (n a x seq : ℕ) (within : x < n) (apart : x ≡ a → ⊥) (fits : se
         ap (λ (m : ℕ). read_from m 1 seq (slot_at left x) (these [])) all
         ∙ read-written seq (slot_at left x) t proper (written_same seq (slot_at full x) (slot_at left x) 1 t (λ i l u. slots-left i l) written)
 
-    headed : header_of 2 slot ≡ Valid seq → Newest n x seq t left
+    headed : header_of 2 slot ≡ Some seq → Newest n x seq t left
     headed e = record {
       size = put.size;
       bytes = put.bytes;
@@ -115,7 +115,7 @@ module _ (n a x seq : ℕ) (within : x < n) (apart : x ≡ a → ⊥) (fits : se
       };
     }
       where
-        beats : (y p : ℕ) → y < n → header_at 2 left y ≡ Valid p → (c : Bool) → eqb y x ≡ c → (p < seq) ⊎ ((p ≡ seq) × (x ≤ y))
+        beats : (y p : ℕ) → y < n → header_at 2 left y ≡ Some p → (c : Bool) → eqb y x ≡ c → (p < seq) ⊎ ((p ≡ seq) × (x ≤ y))
         beats y p u v true z =
             let here = eqb-true y x z in
             inr (valid_same (header_at 2 left x) p seq (ap (header_at 2 left) (sym here) ∙ v) (own-left ∙ e), omega arith)
@@ -174,7 +174,7 @@ module _ (n a x seq : ℕ) (within : x < n) (apart : x ≡ a → ⊥) (fits : se
             fine : T (are_bytes slot)
             fine = cut-bytes (header_slot seq) (header_sixteen seq) j (omega arith) (header-bytes seq (omega arith))
 
-            parts : (header_of 2 slot ≡ Invalid) ⊎ (header_of 2 slot ≡ Valid seq)
+            parts : (header_of 2 slot ≡ None) ⊎ (header_of 2 slot ≡ Some seq)
                 → (Spared n a image o.flash.image) ⊎ (Newest n x seq t o.flash.image)
             parts (inl z) =
                 inl

@@ -1,4 +1,5 @@
 -- The tables that a log may hold, what joins them, and what a pass over slots reads.
+use Rattle.std.specs.Prelude.{Option, Some, None}
 use mathlib.Core.Path.{◌≡◌, refl, sym, ap, ap₂, subst, ◌∙◌}
 use mathlib.Core.Bool.{Bool, true, false, ◌&&◌, ◌||◌, or_assoc, false≢true}
 use mathlib.Core.List.{List, [], ◌∷◌, ◌++◌, append-nil}
@@ -14,8 +15,7 @@ use Rattle.basics.specs.Choice.{pick}
 use Rattle.basics.proofs.ChoiceLaws.{alike}
 use Rattle.basics.proofs.ListsLaws.{bytes-head, bytes_tail, bytes_take}
 use Rattle.codec.specs.declared.Raw.{Raw}
-use Rattle.codec.specs.declared.OptRaw.{OptRaw}
-use Rattle.codec.specs.Slots.{raw_of, slot_of, some, none, decoded}
+use Rattle.codec.specs.Slots.{raw_of, slot_of, decoded}
 use Rattle.codec.proofs.SlotsRoundTrip.{decode_encode, decode_sealed}
 use Rattle.records.specs.Table.{limit, has_key, same_key, place_of, holds, joined, falls, absorbed, has_room}
 use Rattle.records.proofs.TableFinding.{place-most, place-holds}
@@ -111,14 +111,14 @@ module _ (r : Raw) (t : List Raw) (w : Whole r) (tagged : r.tag ≡ 0xFF → ⊥
 
 -- ---- reading
 -- what is no record changes nothing
-pub slot-none : (seq : ℕ) (slot : List ℕ) (read : Read) → decoded seq slot ≡ none → with_slot seq slot read ≡ read
+pub slot-none : (seq : ℕ) (slot : List ℕ) (read : Read) → decoded seq slot ≡ None → with_slot seq slot read ≡ read
 slot-none seq slot too_many e = refl
-slot-none seq slot (these t) e = ap (λ (o : OptRaw). with_record o t) e
+slot-none seq slot (these t) e = ap (λ (o : Option Raw). with_record o t) e
 
 -- a record that may be written is read as it joins
 pub slot-written : (seq : ℕ) (r : Raw) (t : List Raw) → Writable r t → with_slot seq (slot_of seq r) (these t) ≡ these (joined r t)
 slot-written seq r t w =
-    ap (λ (o : OptRaw). with_record o t) (decode_encode seq r w.whole.ten w.tagged)
+    ap (λ (o : Option Raw). with_record o t) (decode_encode seq r w.whole.ten w.tagged)
     ∙ ap (λ (b : Bool). pick b (these (absorbed r t)) too_many) w.room
     ∙ ap these (absorb_join r t w.rises)
 
@@ -142,7 +142,7 @@ module _ (seq : ℕ) (slots : ℕ → List ℕ) where
   read-last n k read = let more : suc n ≡ n + 1 = omega arith in ap (λ (m : ℕ). read_from m k seq slots read) more ∙ read-on n 1 k read
 
   -- slots that hold no record change nothing
-  pub read_quiet : (n k : ℕ) (read : Read) → ((i : ℕ) → k ≤ i → i < k + n → decoded seq (slots i) ≡ none) → read_from n k seq slots read ≡ read
+  pub read_quiet : (n k : ℕ) (read : Read) → ((i : ℕ) → k ≤ i → i < k + n → decoded seq (slots i) ≡ None) → read_from n k seq slots read ≡ read
   unfolding read_from
   read_quiet zero k read quiet = refl
   read_quiet (suc n) k read quiet =
@@ -194,7 +194,7 @@ slot-new : (seq : ℕ) (r : Raw) (a : List Raw) → Whole r → (r.tag ≡ 0xFF 
     → with_slot seq (slot_of seq r) (these a) ≡ these (a ++ (r ∷ []))
 slot-new seq r a w tagged new room =
     let place = ltb-false (place_of r.tag r.id a) (length a) (place-holds r.tag r.id a ∙ new) in
-    ap (λ (o : OptRaw). with_record o a) (decode_encode seq r w.ten tagged)
+    ap (λ (o : Option Raw). with_record o a) (decode_encode seq r w.ten tagged)
     ∙ ap (λ (b : Bool). pick b (these (absorbed r a)) too_many) (ap₂ (λ (x y : Bool). x || y) new (lt-ltb (length a) limit room))
     ∙ ap these (absorb_new r a (omega (arith, place-most r.tag r.id a)))
 
@@ -215,7 +215,7 @@ pub read-written : (seq : ℕ) (slots : ℕ → List ℕ) (t : List Raw) → Pro
 read-written seq slots t p w = read-from seq slots 1 [] t (keys_apart t p.keyed) (keys_tagged t p.keyed) p.whole (omega (arith, p.few)) w
 
 -- ---- what is read from bytes is a table that a log may hold
-read_whole : (seq : ℕ) (slot : List ℕ) (r : Raw) → T (are_bytes slot) → decoded seq slot ≡ some r → Whole r × (r.tag ≡ 0xFF → ⊥)
+read_whole : (seq : ℕ) (slot : List ℕ) (r : Raw) → T (are_bytes slot) → decoded seq slot ≡ Some r → Whole r × (r.tag ≡ 0xFF → ⊥)
 read_whole seq slot r t e =
     let s = decode_sealed seq slot r e in
     let bytes = subst (λ (l : List ℕ). T (are_bytes l)) s.bytes (bytes_take 12 slot t) in
@@ -239,14 +239,14 @@ module _ (seq : ℕ) (slots : ℕ → List ℕ) (bytes : (k : ℕ) → T (are_by
   one-proper k too_many p = tt
   one-proper k (these t) p = go (decoded-or seq (slots k))
     where
-      room : decoded seq (slots k) ≡ some (raw_of (slots k)) → (b : Bool) → has_room limit (raw_of (slots k)) t ≡ b
+      room : decoded seq (slots k) ≡ Some (raw_of (slots k)) → (b : Bool) → has_room limit (raw_of (slots k)) t ≡ b
           → ProperRead (pick b (these (absorbed (raw_of (slots k)) t)) too_many)
       room e true h = let w = read_whole seq (slots k) (raw_of (slots k)) (bytes k) e in absorb_proper (raw_of (slots k)) t w.0 w.1 h p
       room e false h = tt
 
-      go : (decoded seq (slots k) ≡ none) ⊎ (decoded seq (slots k) ≡ some (raw_of (slots k))) → ProperRead (with_record (decoded seq (slots k)) t)
-      go (inl e) = subst (λ (o : OptRaw). ProperRead (with_record o t)) (sym e) p
-      go (inr e) = subst (λ (o : OptRaw). ProperRead (with_record o t)) (sym e) (room e (has_room limit (raw_of (slots k)) t) refl)
+      go : (decoded seq (slots k) ≡ None) ⊎ (decoded seq (slots k) ≡ Some (raw_of (slots k))) → ProperRead (with_record (decoded seq (slots k)) t)
+      go (inl e) = subst (λ (o : Option Raw). ProperRead (with_record o t)) (sym e) p
+      go (inr e) = subst (λ (o : Option Raw). ProperRead (with_record o t)) (sym e) (room e (has_room limit (raw_of (slots k)) t) refl)
 
   pub read-proper : (n k : ℕ) (read : Read) → ProperRead read → ProperRead (read_from n k seq slots read)
   unfolding read_from

@@ -1,4 +1,5 @@
 -- A slot that was cut while it was programmed: a record is none or whole but for the chance match, a header is none or has its seq.
+use Rattle.std.specs.Prelude.{Some, None}
 use mathlib.Core.Path.{◌≡◌, refl, sym, ap, ap₂, ◌∙◌}
 use mathlib.Core.Bool.{Bool, true, false, and-false, false≢true}
 use mathlib.Core.List.{List, [], ◌∷◌, ◌++◌, append-nil}
@@ -19,9 +20,8 @@ use Rattle.basics.proofs.LittleLaws.{le-bytes}
 use Rattle.crc.specs.Register.{crc32_of}
 use Rattle.crc.proofs.RegisterBounds.{crc_lt}
 use Rattle.codec.specs.declared.Raw.{Raw}
-use Rattle.codec.specs.declared.Header.TheVariants.{Valid, Invalid}
 use Rattle.codec.specs.Slots.{sealed, crc_in, header_bytes, header_slot, is_header, header_of, crc_under, bytes_of, raw_of, slot_of, is_record_with}
-use Rattle.codec.specs.Slots.{some, none, decoded_with, decoded}
+use Rattle.codec.specs.Slots.{decoded_with, decoded}
 use Rattle.codec.proofs.SlotsRoundTrip.{sealed-length, sealed-bytes, slot-parts, Sealed, decode_sealed, header_read, header_sealed}
 use Rattle.flash.specs.Run.{landed}
 use Rattle.flash.proofs.RunLanding.{landed-blank}
@@ -121,11 +121,11 @@ module _ (slot : List ℕ) (size : length slot ≡ 16) (k : ℕ) (most : k ≤ 1
 
 -- ---- records
 -- a slot is no record, or the one in its bytes
-pub decoded-or : (seq : ℕ) (slot : List ℕ) → (decoded seq slot ≡ none) ⊎ (decoded seq slot ≡ some (raw_of slot))
+pub decoded-or : (seq : ℕ) (slot : List ℕ) → (decoded seq slot ≡ None) ⊎ (decoded seq slot ≡ Some (raw_of slot))
 unfolding decoded decoded_with
 decoded-or seq slot = go (is_record_with (crc_under seq (take 12 slot)) slot)
   where
-    go : (b : Bool) → (pick b (some (raw_of slot)) none ≡ none) ⊎ (pick b (some (raw_of slot)) none ≡ some (raw_of slot))
+    go : (b : Bool) → (pick b (Some (raw_of slot)) None ≡ None) ⊎ (pick b (Some (raw_of slot)) None ≡ Some (raw_of slot))
     go true = inr refl
     go false = inl refl
 
@@ -180,22 +180,22 @@ module _ (seq : ℕ) (fits : seq < 2 ^ 32) (r : Raw) (w : Whole r) (k : ℕ) (mo
       go false e = let h = leb-false 12 k e in early (omega arith) read s
 
   -- a record that was cut is none, or whole
-  pub cut_record : (decoded seq (cut_at k slot) ≡ none) ⊎ (cut_at k slot ≡ slot)
+  pub cut_record : (decoded seq (cut_at k slot) ≡ None) ⊎ (cut_at k slot ≡ slot)
   cut_record = go (decoded-or seq (cut_at k slot))
     where
-      go : (decoded seq (cut_at k slot) ≡ none) ⊎ (decoded seq (cut_at k slot) ≡ some (raw_of (cut_at k slot)))
-          → (decoded seq (cut_at k slot) ≡ none) ⊎ (cut_at k slot ≡ slot)
+      go : (decoded seq (cut_at k slot) ≡ None) ⊎ (decoded seq (cut_at k slot) ≡ Some (raw_of (cut_at k slot)))
+          → (decoded seq (cut_at k slot) ≡ None) ⊎ (cut_at k slot ≡ slot)
       go (inl e) = inl e
       go (inr e) = inr (whole (raw_of (cut_at k slot)) (decode_sealed seq (cut_at k slot) (raw_of (cut_at k slot)) e))
 
 -- ---- headers
 -- FF in the place of the first byte or of the version is no header
-pub header_none : (slot : List ℕ) → get_or slot 0 0 ≡ 0xFF → header_of 2 slot ≡ Invalid
+pub header_none : (slot : List ℕ) → get_or slot 0 0 ≡ 0xFF → header_of 2 slot ≡ None
 unfolding header_of same
 header_none [] e = absurd (omega arith)
 header_none (b ∷ slot) e = rw (ne_eqb b 0x50 (λ h. omega arith), and-false)
 
-header_unversioned : (slot : List ℕ) → get_or slot 8 0 ≡ 0xFF → header_of 2 slot ≡ Invalid
+header_unversioned : (slot : List ℕ) → get_or slot 8 0 ≡ 0xFF → header_of 2 slot ≡ None
 unfolding header_of
 header_unversioned slot e = rw (ne_eqb (get_or slot 8 0) 2 (λ h. omega arith), and-false, and-false)
 
@@ -203,7 +203,7 @@ header_seq : (seq : ℕ) → le_number (part 4 4 (header_slot seq)) ≡ seq
 header_seq seq = (header_sealed 2 (header_slot seq) seq (header_read seq)).seq-there
 
 -- a header that was cut is none, or has its seq
-pub cut_header : (seq k : ℕ) → k ≤ 16 → (header_of 2 (cut_at k (header_slot seq)) ≡ Invalid) ⊎ (header_of 2 (cut_at k (header_slot seq)) ≡ Valid seq)
+pub cut_header : (seq k : ℕ) → k ≤ 16 → (header_of 2 (cut_at k (header_slot seq)) ≡ None) ⊎ (header_of 2 (cut_at k (header_slot seq)) ≡ Some seq)
 unfolding header_of
 cut_header seq k most = go (leb 9 k) refl
   where
@@ -211,12 +211,12 @@ cut_header seq k most = go (leb 9 k) refl
     seq-there h = ap le_number (cut_low (header_slot seq) (header_sixteen seq) k most 4 4 (omega arith)) ∙ header_seq seq
 
     valid : 9 ≤ k → (b : Bool)
-        → (pick b (Valid (le_number (part 4 4 (cut_at k (header_slot seq))))) Invalid ≡ Invalid)
-        ⊎ (pick b (Valid (le_number (part 4 4 (cut_at k (header_slot seq))))) Invalid ≡ Valid seq)
-    valid h true = inr (ap Valid (seq-there h))
+        → (pick b (Some (le_number (part 4 4 (cut_at k (header_slot seq))))) None ≡ None)
+        ⊎ (pick b (Some (le_number (part 4 4 (cut_at k (header_slot seq))))) None ≡ Some seq)
+    valid h true = inr (ap Some (seq-there h))
     valid h false = inl refl
 
-    go : (b : Bool) → leb 9 k ≡ b → (header_of 2 (cut_at k (header_slot seq)) ≡ Invalid) ⊎ (header_of 2 (cut_at k (header_slot seq)) ≡ Valid seq)
+    go : (b : Bool) → leb 9 k ≡ b → (header_of 2 (cut_at k (header_slot seq)) ≡ None) ⊎ (header_of 2 (cut_at k (header_slot seq)) ≡ Some seq)
     go true e = valid (leb-true 9 k e) (is_header 2 (cut_at k (header_slot seq)))
     go false e =
         let h = leb-false 9 k e in

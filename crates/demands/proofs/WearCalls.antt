@@ -1,11 +1,12 @@
 -- The wear of any call, by its course.
+use Rattle.std.specs.Prelude.{◌≡◌, true, Option, Some, None, is_some, unwrap_or, IfSome, Err}
 use mathlib.Core.Path.{refl, sym, ◌∙◌}
 use mathlib.Core.Bool.{false≢true}
 use mathlib.Core.List.{List, []}
 use Prim.Native.Nat.{ℕ, ◌+◌, ◌≤◌, ◌<◌}
 use native.Mathlib.Omega.{arith}
 use lib.ListN.{length, length-take}
-use Rattle.basics.specs.declared.Answer.TheVariants.{WriteError}
+use Rattle.basics.specs.declared.Refusal.TheVariants.{WriteError}
 use Rattle.basics.proofs.ChoiceLaws.{fails}
 use Rattle.codec.specs.declared.Raw.{Raw}
 use Rattle.flash.specs.declared.Plan.{Plan}
@@ -29,6 +30,11 @@ use Rattle.demands.proofs.WearLaws.{paid_on, commit_paid, append_paid, commit-sp
 use Rattle.demands.proofs.WearLaws.{commit-full, append-full, first_costs, append_costs, append_light}
 use Rattle.demands.proofs.CallsCourses.{Course, refusal, given, appends, formats, anchors, call_course}
 
+-- the units of a plan that has them to spare, where its power is limited
+units_spare : (left : Option ℕ) → is_some left ≡ true → IfSome left (λ units. 73536 ≤ units) → 73536 ≤ unwrap_or left 0
+units_spare (Some units) limited enough = enough
+units_spare None limited enough = absurd (false≢true limited)
+
 -- what was paid for and is within bounds, from a flash that nothing was used of
 wears-by : (image : List ℕ) (plan : Plan) (o : Outcome) (p e : ℕ) → p ≤ 8000 → e ≤ 65536 → p + e < 73536
     → Paid (flash_of image plan) o.flash → Within p e (flash_of image plan) o.flash → CutIsDead o.flash
@@ -41,7 +47,9 @@ wears-by image plan o p e h k few paid w dead whole = record {
   lasts = paid.uncut;
   spare = λ enough. fails o.flash.cut (λ c.
       let none_left = (dead c).1 in
-      let used = paid.units (sym paid.limited ∙ (dead c).0) in
+      let limited = sym paid.limited ∙ (dead c).0 in
+      let used = paid.units limited in
+      let most = units_spare plan.units limited enough in
       omega (arith, w.programmed, w.erased));
   cut-limited = λ c. sym paid.limited ∙ (dead c).0;
   cut-spent = λ c. (dead c).1;
@@ -86,19 +94,19 @@ module _ (image : List ℕ) (log : Log) (plan : Plan) where
       (append-full n s seq head next r (joined r (records_of log)) f placed.within placed.high)
   course_wears L o (formats fits some e new most) =
       wears-by image plan o 2304 65536 (omega arith) (omega arith) (omega arith)
-      (commit_paid n n new n 0 WriteError Unformatted next f some) (first_costs new n few Unformatted next f most)
-      (commit-spent n n new n 0 WriteError Unformatted next f some uncut) (commit-full n n new n 0 WriteError Unformatted next f some)
+      (commit_paid n n new n 0 (Err WriteError) Unformatted next f some) (first_costs new n few Unformatted next f most)
+      (commit-spent n n new n 0 (Err WriteError) Unformatted next f some uncut) (commit-full n n new n 0 (Err WriteError) Unformatted next f some)
   course_wears L o (anchors may fits some e d s seq within z r value) =
       let w = commit_first n [] Unformatted next f in
       let none : length {A = Raw} [] ≤ 8 = omega arith in
       wears-by image plan o 2352 65536 (omega arith) (omega arith) (omega arith)
-      (paid_on f w.flash o.flash (commit_paid n n [] n 0 WriteError Unformatted next f some)
+      (paid_on f w.flash o.flash (commit_paid n n [] n 0 (Err WriteError) Unformatted next f some)
       (append_paid n s seq 1 w.next r (joined r []) w.flash within (omega arith)))
       (within_on 2304 65536 48 0 f w.flash o.flash (first_costs [] n few Unformatted next f none)
       (append_light n s seq 1 w.next r (joined r []) w.flash (omega arith)))
       (append-spent n s seq 1 w.next r (joined r []) w.flash within (omega arith)
-      (commit-spent n n [] n 0 WriteError Unformatted next f some uncut))
-      (whole-on f w.flash o.flash (commit-full n n [] n 0 WriteError Unformatted next f some)
+      (commit-spent n n [] n 0 (Err WriteError) Unformatted next f some uncut))
+      (whole-on f w.flash o.flash (commit-full n n [] n 0 (Err WriteError) Unformatted next f some)
       (append-full n s seq 1 w.next r (joined r []) w.flash within (omega arith)))
 
 pub call-wears : CallWears

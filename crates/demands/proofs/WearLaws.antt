@@ -1,4 +1,5 @@
 -- What writes cost: limited units fall by exactly the bytes programmed and erased, and no write costs more than the paper says.
+use Rattle.std.specs.Prelude.{Err}
 use mathlib.Core.Path.{◌≡◌, refl, sym, subst, ◌∙◌}
 use mathlib.Core.Bool.{Bool, true, false, false≢true}
 use mathlib.Core.List.{List}
@@ -10,9 +11,8 @@ use lib.ListN.{length}
 use borrow.Author.Tests.{eq-eqb, eqb-true, eqb-false, ltb-true, ltb-false}
 use Rattle.records.specs.Fitting.{seq_max}
 use Rattle.basics.specs.Choice.{pick}
-use Rattle.basics.specs.Answers.{is_done}
-use Rattle.basics.specs.declared.Answer.{Answer}
-use Rattle.basics.specs.declared.Answer.TheVariants.{WriteError}
+use Rattle.basics.specs.Answers.{is_done, Answer}
+use Rattle.basics.specs.declared.Refusal.TheVariants.{WriteError}
 use Rattle.basics.proofs.ChoiceLaws.{by_test}
 use Rattle.codec.specs.declared.Raw.{Raw}
 use Rattle.codec.specs.Slots.{slot_of}
@@ -221,7 +221,7 @@ module _ (t : List Raw) (n : ℕ) (few : n ≤ 16) where
       let fewer : k ≤ 15 = omega (arith, turns-after n s h) in
       let small : one t ≤ 528 = omega arith in
       let all : k * one t ≤ 15 * 528 = mul-le-mul fewer small in
-      within_more (k * one t) (k * 4096) 7920 61440 f _ (omega arith) (omega arith) (commit_costs t n n s (sector_after n s) WriteError state next f)
+      within_more (k * one t) (k * 4096) 7920 61440 f _ (omega arith) (omega arith) (commit_costs t n n s (sector_after n s) (Err WriteError) state next f)
 
   -- at most 8 seeds, and no sector is skipped
   pub first_costs : (state : State) (next : ℕ) (f : Flash) → length t ≤ 8 → Within 2304 65536 f (commit_first n t state next f).flash
@@ -230,14 +230,14 @@ module _ (t : List Raw) (n : ℕ) (few : n ≤ 16) where
       let fewer : k ≤ 16 = omega (arith, turns-most n n n 0) in
       let small : one t ≤ 144 = omega arith in
       let all : k * one t ≤ 16 * 144 = mul-le-mul fewer small in
-      within_more (k * one t) (k * 4096) 2304 65536 f _ (omega arith) (omega arith) (commit_costs t n n n 0 WriteError state next f)
+      within_more (k * one t) (k * 4096) 2304 65536 f _ (omega arith) (omega arith) (commit_costs t n n n 0 (Err WriteError) state next f)
 
   pub append_costs : (s seq head next : ℕ) (r : Raw) (f : Flash) → s < n → length t ≤ 32
       → Within 7968 61440 f (append_of n s seq head next r t f).flash
   unfolding append_of
   append_costs s seq head next r f h most =
-      let o = tries_from 3 s head (slot_of seq r) WriteError f in
-      let w = tries-within 3 s head (slot_of seq r) WriteError f in
+      let o = tries_from 3 s head (slot_of seq r) (Err WriteError) f in
+      let w = tries-within 3 s head (slot_of seq r) (Err WriteError) f in
       by_test (λ (x : Written). Within 7968 61440 f x.flash) o.full _ _
       (λ _. within_on 48 0 7920 61440 f o.flash _ w (after_costs s (Active s seq o.head) next o.flash h most))
       (λ _. within_more 48 0 7968 61440 f o.flash (omega arith) (omega arith) w)
@@ -254,4 +254,4 @@ tries-fit (suc m) s head bytes last f h =
 pub append_light : (n s seq head next : ℕ) (r : Raw) (t : List Raw) (f : Flash) → head + 3 ≤ 256
     → Within 48 0 f (append_of n s seq head next r t f).flash
 unfolding append_of
-append_light n s seq head next r t f h = rw (tries-fit 3 s head (slot_of seq r) WriteError f h) (tries-within 3 s head (slot_of seq r) WriteError f)
+append_light n s seq head next r t f h = rw (tries-fit 3 s head (slot_of seq r) (Err WriteError) f h) (tries-within 3 s head (slot_of seq r) (Err WriteError) f)

@@ -1,4 +1,5 @@
 -- Any call with units to spare comes to what it comes to without a limit.
+use Rattle.std.specs.Prelude.{Option, IfSome, Err}
 use mathlib.Core.Path.{◌≡◌, refl, sym, ap, subst, ◌∙◌}
 use mathlib.Core.Bool.{Bool, true, false}
 use mathlib.Core.List.{List, []}
@@ -7,26 +8,25 @@ use native.Mathlib.Omega.{arith}
 use lib.ListN.{length}
 use Rattle.basics.specs.Choice.{pick}
 use Rattle.basics.specs.Answers.{is_done}
-use Rattle.basics.specs.declared.Answer.TheVariants.{WriteError, NotFormatted}
-use Rattle.basics.proofs.ChoiceLaws.{by_test}
+use Rattle.basics.specs.declared.Refusal.TheVariants.{WriteError, NotFormatted}
 use Rattle.ids.specs.declared.Anchor.{Anchor}
 use Rattle.ids.specs.Ids.{anchor_tag}
 use Rattle.codec.specs.declared.Raw.{Raw}
-use Rattle.codec.specs.declared.OptRaw.{OptRaw}
 use Rattle.flash.specs.declared.Plan.{Plan}
 use Rattle.flash.specs.Image.{sectors_in}
 use Rattle.flash.specs.Run.{Flash}
 use Rattle.records.specs.declared.State.{State}
 use Rattle.records.specs.declared.State.TheVariants.{Unformatted, Failed, Active}
 use Rattle.records.specs.declared.Log.{Log}
-use Rattle.records.specs.Table.{joined}
+use Rattle.records.specs.Table.{joined, held_of}
 use Rattle.records.specs.Logs.{records_of}
 use Rattle.records.specs.Fitting.{log_fits}
 use Rattle.records.proofs.FittingLaws.{fits-active}
 use Rattle.sectors.specs.Commits.{Written}
 use Rattle.decisions.specs.declared.Decision.{Decision}
+use Rattle.decisions.specs.declared.Decision.TheVariants.{Refuse, Give, Write}
 use Rattle.decisions.specs.Decisions.{when_active, anchor_decision}
-use Rattle.reads.specs.Entering.{entry_answer, held_of, room_for}
+use Rattle.reads.specs.Entering.{entry_answer, room_for}
 use Rattle.reads.proofs.EnteringLaws.{let_in_by}
 use Rattle.decisions.specs.declared.seeds.Seed.{Seed}
 use Rattle.decisions.specs.Seeds.{seeds_known, seed_table}
@@ -70,21 +70,19 @@ module _ (n : ℕ) (log : Log) (f : Flash) where
 
   performed-uncut : (d : Decision) → Inside n log.state → Uncut f (performed d n log f).flash
   unfolding performed
-  performed-uncut d i =
-      by_test (λ (o : Outcome). Uncut f o.flash) d.write _ _ (λ _. appended-uncut log.state i d.rec d.value) (λ _ c. c)
+  performed-uncut (Refuse x) i = λ c. c
+  performed-uncut (Give value) i = λ c. c
+  performed-uncut (Write r value) i = appended-uncut log.state i r value
 
   performed-freed : (d : Decision) → Inside n log.state → Free (performed d n log) f
   unfolding performed
-  performed-freed d i =
-      chosen freed_outcome (λ (o : Outcome). o.flash) d.write (appended log.state n d.rec d.value log f)
-      (appended log.state n d.rec d.value log (freed f))
-      (record { answer = d.answer; value = d.value; log = log; flash = f })
-      (record { answer = d.answer; value = d.value; log = log; flash = freed f })
-      (appended-freed log.state i d.rec d.value) (λ _. refl)
+  performed-freed (Refuse x) i = λ _. refl
+  performed-freed (Give value) i = λ _. refl
+  performed-freed (Write r value) i = appended-freed log.state i r value
 
   -- ---- a format, and the first anchor
   formatted-freed : (t : List Raw) → 0 < n → Free (formatted t n log) f
-  formatted-freed t some c = ap (λ (w : Written). written_outcome w 0 t []) (commit-freed n n t n 0 WriteError log.state log.next_seq f some c)
+  formatted-freed t some c = ap (λ (w : Written). written_outcome w 0 t []) (commit-freed n n t n 0 (Err WriteError) log.state log.next_seq f some c)
 
 fits_inside : (n : ℕ) (log : Log) → log_fits n log ≡ true → Inside n log.state
 fits_inside n log fits = go log.state refl
@@ -98,7 +96,7 @@ fits_inside n log fits = go log.state refl
 formatted_inside : (n : ℕ) (log : Log) (f : Flash) → 0 < n → is_done (formatted [] n log f).answer ≡ true
     → Inside n (formatted [] n log f).log.state
 formatted_inside n log f some d =
-    let fresh = commit_fresh n n n 0 [] WriteError log.state log.next_seq f some refl d in
+    let fresh = commit_fresh n n n 0 [] (Err WriteError) log.state log.next_seq f some refl d in
     subst (Inside n) (sym fresh.state-is) (fresh.within, omega arith)
 
 module _ (new : Anchor) (n : ℕ) (log : Log) (f : Flash) (some : 0 < n) where
@@ -128,7 +126,7 @@ module _ (new : Anchor) (n : ℕ) (log : Log) (f : Flash) (some : 0 < n) where
   anchored-freed Unformatted i =
       chosen freed_outcome (λ (o : Outcome). o.flash) (is_first new) (anchored_first new n (formatted [] n log f))
       (anchored_first new n (formatted [] n log (freed f)))
-      (refused NotFormatted log f) (refused NotFormatted log (freed f)) first-freed (λ _. refl)
+      (refused (Err NotFormatted) log f) (refused (Err NotFormatted) log (freed f)) first-freed (λ _. refl)
   anchored-freed Failed i = λ _. refl
   anchored-freed (Active s seq head) i = performed-freed n log f _ i
 
@@ -152,7 +150,7 @@ module _ (image : List ℕ) (log : Log) (plan : Plan) where
       go true e = let passed = let_in_by n log known e in free passed.0 passed.1
       go false e = λ _. refl
 
-  keyed-freed : (known : Bool) (tag id : ℕ) (d : OptRaw → Bool → Decision) → (entered image log plan known (decided tag id d)).flash.cut ≡ false
+  keyed-freed : (known : Bool) (tag id : ℕ) (d : Option Raw → Bool → Decision) → (entered image log plan known (decided tag id d)).flash.cut ≡ false
       → entered image log (unlimited plan) known (decided tag id d) ≡ freed_outcome (entered image log plan known (decided tag id d))
   keyed-freed known tag id d =
       entered-freed known (decided tag id d)
@@ -188,7 +186,7 @@ module _ (image : List ℕ) (log : Log) (plan : Plan) where
       → x.outcome image log (unlimited plan) ≡ freed_outcome (x.outcome image log plan))
       (λ typed known tag id d r k. keyed-freed known tag id d) anchor-freed format-freed
 
-  alike : (c : Call) → 73536 ≤ plan.units → Alike (outcome_of c image log (unlimited plan)) (outcome_of c image log plan)
+  alike : (c : Call) → IfSome plan.units (λ units. 73536 ≤ units) → Alike (outcome_of c image log (unlimited plan)) (outcome_of c image log plan)
   alike c enough =
       let same = call-freed c ((call-wears c image log plan).spare enough) in
       record {

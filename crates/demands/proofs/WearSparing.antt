@@ -1,4 +1,6 @@
 -- "with unlimited power the figures are those of a plan with units to spare": a write that is not cut comes to the same on the plan without a limit.
+use Rattle.std.specs.Prelude.{Err}
+use Rattle.basics.specs.Answers.{all_done, is_done, Answer}
 use mathlib.Core.Path.{◌≡◌, refl, sym, ap, ◌∙◌}
 use mathlib.Core.Bool.{Bool, true, false, false≢true}
 use mathlib.Core.List.{List, [], ◌∷◌}
@@ -9,9 +11,7 @@ use lib.ListN.{length}
 use borrow.Author.Tests.{eqb-false}
 use Rattle.records.specs.Fitting.{seq_max}
 use Rattle.basics.specs.Choice.{pick}
-use Rattle.basics.specs.Answers.{is_done}
-use Rattle.basics.specs.declared.Answer.{Answer}
-use Rattle.basics.specs.declared.Answer.TheVariants.{Done, WriteError}
+use Rattle.basics.specs.declared.Refusal.TheVariants.{WriteError}
 use Rattle.basics.proofs.ChoiceLaws.{by_test}
 use Rattle.codec.specs.declared.Raw.{Raw}
 use Rattle.codec.specs.Slots.{slot_of, header_slot}
@@ -198,7 +198,7 @@ commit-freed n a t (suc m) s last state next f within =
     (commit-freed n a t m (sector_after n s) last state next f (after-within n s within))
     (chosen freed_wrote (λ (w : Written). w.flash) (eqb next seq_max) (held f) (held (freed f)) (written f) (written (freed f)) (λ _. refl)
     (branch freed_wrote (λ (w : Written). w.flash) (write_sector s next t f) (write_sector s next t (freed f)) (sector-freed s next t f)
-    (λ (q : Stepped). record { answer = Done; state = Active s next (length t + 1); next = next + 1; flash = q.flash })
+    (λ (q : Stepped). record { answer = all_done; state = Active s next (length t + 1); next = next + 1; flash = q.flash })
     (λ (q : Stepped). commit_from m n a (sector_after n s) t q.answer state (next + 1) q.flash)
     (λ c. c)
     (commit-uncut n a t m (sector_after n s) (write_sector s next t f).answer state (next + 1) (write_sector s next t f).flash
@@ -208,12 +208,12 @@ commit-freed n a t (suc m) s last state next f within =
     (after-within n s within))))
   where
     held : Flash → Written
-    held g = record { answer = WriteError; state = state; next = next; flash = g }
+    held g = record { answer = Err WriteError; state = state; next = next; flash = g }
 
     written : Flash → Written
     written g =
         pick (is_done (write_sector s next t g).answer)
-        (record { answer = Done; state = Active s next (length t + 1); next = next + 1; flash = (write_sector s next t g).flash })
+        (record { answer = all_done; state = Active s next (length t + 1); next = next + 1; flash = (write_sector s next t g).flash })
         (commit_from m n a (sector_after n s) t (write_sector s next t g).answer state (next + 1) (write_sector s next t g).flash)
 
     used : Flash → Written
@@ -236,7 +236,7 @@ tries-freed (suc m) s head bytes last f high =
     o = program s head bytes f
 
     done : Flash → SlotTries
-    done g = record { full = false; answer = Done; head = head + 1; flash = g }
+    done g = record { full = false; answer = all_done; head = head + 1; flash = g }
 
     go : (b : Bool) → eqb head 256 ≡ b
         → (head + 1 ≤ 256 → (tries_from m s (head + 1) bytes o.answer o.flash).flash.cut ≡ false
@@ -270,8 +270,8 @@ pub append-freed : (n s seq head next : ℕ) (r : Raw) (t : List Raw) (f : Flash
     → append_of n s seq head next r t (freed f) ≡ freed_wrote (append_of n s seq head next r t f)
 unfolding append_of
 append-freed n s seq head next r t f within high =
-    go (tries_from 3 s head (slot_of seq r) WriteError f) (tries_from 3 s head (slot_of seq r) WriteError (freed f))
-    (tries-freed 3 s head (slot_of seq r) WriteError f high)
+    go (tries_from 3 s head (slot_of seq r) (Err WriteError) f) (tries_from 3 s head (slot_of seq r) (Err WriteError) (freed f))
+    (tries-freed 3 s head (slot_of seq r) (Err WriteError) f high)
   where
     ends : SlotTries → Written
     ends o =
@@ -283,10 +283,10 @@ append-freed n s seq head next r t f within high =
         let before : o.flash.cut ≡ false =
         by_test (λ (w : Written). Uncut o.flash w.flash) o.full (commit_after n s t (Active s seq o.head) next o.flash)
         (record { answer = o.answer; state = Active s seq o.head; next = next; flash = o.flash })
-        (λ _. commit-uncut n s t n (sector_after n s) WriteError (Active s seq o.head) next o.flash (after-within n s within)) (λ _ z. z) c in
+        (λ _. commit-uncut n s t n (sector_after n s) (Err WriteError) (Active s seq o.head) next o.flash (after-within n s within)) (λ _ z. z) c in
         ap ends (same before)
         ∙ chosen freed_wrote (λ (w : Written). w.flash) o.full (commit_after n s t (Active s seq o.head) next o.flash)
         (commit_after n s t (Active s seq o.head) next (freed o.flash))
         (record { answer = o.answer; state = Active s seq o.head; next = next; flash = o.flash })
         (record { answer = o.answer; state = Active s seq o.head; next = next; flash = freed o.flash })
-        (commit-freed n s t n (sector_after n s) WriteError (Active s seq o.head) next o.flash (after-within n s within)) (λ _. refl) c
+        (commit-freed n s t n (sector_after n s) (Err WriteError) (Active s seq o.head) next o.flash (after-within n s within)) (λ _. refl) c

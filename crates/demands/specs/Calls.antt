@@ -1,5 +1,6 @@
 -- The calls that can change a log or an image, with any arguments, and what each comes to. The others take no image and hand back no log.
 use Rattle.std.specs.Prelude.{◌≡◌, true, List, [], ◌⊎◌, ℕ, ◌+◌, ◌<◌, ◌^◌, length}
+use Rattle.std.specs.Result.{result_unwrap_or}
 use Rattle.ids.specs.declared.CounterState.{CounterState}
 use Rattle.ids.specs.declared.Anchor.{Anchor}
 use Rattle.ids.specs.Ids.{counter_tag, value_tag, lamport}
@@ -13,7 +14,7 @@ use Rattle.records.specs.declared.State.{State}
 use Rattle.records.specs.declared.State.TheVariants.{Unformatted, Failed, Active}
 use Rattle.records.specs.declared.Log.{Log}
 use Rattle.records.specs.Logs.{records_of}
-use Rattle.reads.specs.Entering.{held_of}
+use Rattle.records.specs.Table.{held_of}
 use Rattle.decisions.specs.declared.seeds.Seed.{Seed}
 use Rattle.decisions.specs.Outcomes.{Outcome, flash_of}
 use Rattle.decisions.specs.Performing.{formatted}
@@ -72,12 +73,16 @@ NoEffect (spend credential current) log z = z ≡ seen log
 NoEffect (set-tries credential tries) log z = z ≡ seen log
 NoEffect (advance_lamport latest) log z = z ≡ seen log
 
+-- the record of an anchor; zeros where there is none
+abbrev pub anchor_raw : Anchor → Raw
+anchor_raw a = result_unwrap_or (anchor_record a) no_raw
+
 -- ---- the chance match of a call
 -- the record that a call appends, where it appends one, to a log with these records
 abbrev pub record_of : Call → List Raw → Raw
 record_of (put credential new) t = counter_record credential new
 record_of (put-value id new) t = value_record id new
-record_of (put-anchor new) t = (anchor_record new).raw
+record_of (put-anchor new) t = anchor_raw new
 record_of (format seeds count) t = no_raw
 record_of (spend credential current) t = counter_record credential (one_more (start_of (held_of counter_tag credential t) current))
 record_of (set-tries credential tries) t = counter_record credential (reset_of (start_of (held_of counter_tag credential t) tries) tries)

@@ -1,10 +1,11 @@
 -- Demand 1: every refusal by its number, their order, and that nothing is changed by one: of the calls that can write, of those that only
 -- read the log, of opening.
-use Rattle.std.specs.Prelude.{◌≡◌, Bool, true, false, ◌&&◌, ◌||◌, List, [], ℕ, leb, length}
-use Rattle.std.proofs.Math.Option.{some}
+use Rattle.std.specs.Prelude.{◌≡◌, Bool, true, false, ◌&&◌, ◌||◌, List, [], ℕ, leb, length, Option, Some, Result}
+use Rattle.std.specs.Result.{result_unwrap_or}
 use Rattle.basics.specs.Choice.{pick}
-use Rattle.basics.specs.Answers.{number_of}
-use Rattle.basics.specs.Says.{Says, says_refused}
+use Rattle.basics.specs.Answers.{number_of, answer_in}
+use Rattle.basics.specs.declared.Refusal.{Refusal}
+use Rattle.basics.specs.Says.{Says, says_refused, option_says}
 use Rattle.ids.specs.declared.CounterState.{CounterState}
 use Rattle.ids.specs.declared.Anchor.{Anchor}
 use Rattle.ids.specs.Ids.{is_credential, is_value}
@@ -16,16 +17,11 @@ use Rattle.records.specs.declared.Log.{Log}
 use Rattle.records.specs.Logs.{log_of}
 use Rattle.scan.specs.Opening.{open_of}
 use Rattle.records.specs.Fitting.{log_fits}
-use Rattle.reads.specs.declared.Counter.{Counter}
-use Rattle.reads.specs.declared.Number.{Number}
-use Rattle.reads.specs.declared.Anchored.{Anchored}
-use Rattle.reads.specs.declared.Told.{Told}
-use Rattle.reads.specs.Reads.{get_of, value_of, anchor_of, lamport_of, needs_migration_of, counter_says, number_says, anchored_says}
+use Rattle.reads.specs.Reads.{get_of, value_of, anchor_of, lamport_of, needs_migration_of}
 use Rattle.decisions.specs.Seeds.{seeds_known}
 use Rattle.counter_log.specs.Calls.{is_first}
 use Rattle.decisions.specs.Outcomes.{flash_of, refused}
-use Rattle.tries.specs.declared.TriesLeft.{TriesLeft}
-use Rattle.tries.specs.Tries.{tries_left_of, tries_left_says, load_of}
+use Rattle.tries.specs.Tries.{tries_left_of, load_of}
 use Rattle.demands.specs.Calls.{Call, put, put-value, put-anchor, format, spend, set-tries, advance_lamport, outcome_of}
 
 -- 1 to 5, 8 and 9 leave "all unchanged"
@@ -84,13 +80,13 @@ pub data Asked : Type 0 where
   load : ℕ → Bool → ℕ → Asked
 
 abbrev pub Reply : Asked → Type 0
-Reply (get credential) = Counter
-Reply (get_value id) = Number
-Reply (remaining credential) = TriesLeft
-Reply anchor = Anchored
-Reply lamport = Told
-Reply needs-migration = Told
-Reply (load credential exists fresh) = Told
+Reply (get credential) = Result (Option CounterState) Refusal
+Reply (get_value id) = Result (Option ℕ) Refusal
+Reply (remaining credential) = Result (Option ℕ) Refusal
+Reply anchor = Result (Option Anchor) Refusal
+Reply lamport = Result ℕ Refusal
+Reply needs-migration = Result Bool Refusal
+Reply (load credential exists fresh) = Result ℕ Refusal
 
 abbrev pub reply_of : (q : Asked) → Log → Reply q
 reply_of (get credential) log = get_of log credential
@@ -108,24 +104,24 @@ Value (get_value id) = ℕ
 Value (remaining credential) = ℕ
 Value anchor = Anchor
 Value lamport = ℕ
-Value needs-migration = ℕ
+Value needs-migration = Bool
 Value (load credential exists fresh) = ℕ
 
--- what a reply says: the paper's number, and the value; where a number is told, there is always one
-abbrev pub says_number : ℕ → ℕ → Says ℕ
-says_number n x = record { number = n; value = some x }
+-- what a reply says: the paper's number, and the value; where something is told, there is always a value, beside a refusal this one
+abbrev pub says_with : {A : Type 0} → ℕ → A → Says A
+says_with n x = record { number = n; value = Some x }
 
-abbrev pub told_says : Told → Says ℕ
-told_says t = says_number (number_of t.answer) t.value
+abbrev pub told_says : {A : Type 0} → A → Result A Refusal → Says A
+told_says x r = says_with (number_of (answer_in r)) (result_unwrap_or r x)
 
 abbrev pub says_of : (q : Asked) → Reply q → Says (Value q)
-says_of (get credential) = counter_says
-says_of (get_value id) = number_says
-says_of (remaining credential) = tries_left_says
-says_of anchor = anchored_says
-says_of lamport = told_says
-says_of needs-migration = told_says
-says_of (load credential exists fresh) = told_says
+says_of (get credential) = option_says
+says_of (get_value id) = option_says
+says_of (remaining credential) = option_says
+says_of anchor = option_says
+says_of lamport = told_says 0
+says_of needs-migration = told_says false
+says_of (load credential exists fresh) = told_says 0
 
 -- "Beside a refusal any value asked for is 0 or none."
 abbrev pub turned_away : (q : Asked) → ℕ → Says (Value q)
@@ -133,9 +129,9 @@ turned_away (get credential) n = says_refused n
 turned_away (get_value id) n = says_refused n
 turned_away (remaining credential) n = says_refused n
 turned_away anchor n = says_refused n
-turned_away lamport n = says_number n 0
-turned_away needs-migration n = says_number n 0
-turned_away (load credential exists fresh) n = says_number n 0
+turned_away lamport n = says_with n 0
+turned_away needs-migration n = says_with n false
+turned_away (load credential exists fresh) n = says_with n 0
 
 abbrev pub known_to : Asked → Bool
 known_to (get credential) = is_credential credential

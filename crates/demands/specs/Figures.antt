@@ -1,19 +1,19 @@
 -- "A healthy append reports 16 and 0; a healthy commit of r records 16 × (r + 1) and 4,096." Each is done, and hands back the new log.
+use Rattle.basics.specs.Answers.{all_done}
 use Rattle.std.specs.Prelude.{◌≡◌, true, List, ℕ, ◌+◌, ◌*◌, ◌<◌, length}
-use Rattle.basics.specs.declared.Answer.TheVariants.{Done}
 use Rattle.ids.specs.Ids.{counter_tag, value_tag, anchor_tag, lamport}
 use Rattle.codec.specs.declared.Raw.{Raw}
 use Rattle.codec.specs.Slots.{slot_size}
 use Rattle.flash.specs.Image.{sector_size, sectors_in}
 use Rattle.records.specs.declared.State.TheVariants.{Unformatted, Active}
 use Rattle.records.specs.declared.Log.{Log}
-use Rattle.records.specs.Table.{joined}
+use Rattle.records.specs.Table.{joined, held_of}
 use Rattle.records.specs.Logs.{log_of, records_of}
 use Rattle.records.specs.Fitting.{seq_max, head_max}
 use Rattle.sectors.specs.Commits.{sector_after}
 use Rattle.decisions.specs.declared.Decision.{Decision}
-use Rattle.decisions.specs.Decisions.{give, put_decision, value_decision, anchor_decision}
-use Rattle.reads.specs.Entering.{held_of, room_for}
+use Rattle.decisions.specs.Decisions.{give, put_decision, value_decision, anchor_decision, writes_record, record_in, reply_in}
+use Rattle.reads.specs.Entering.{room_for}
 use Rattle.decisions.specs.declared.seeds.Seed.{Seed}
 use Rattle.decisions.specs.Seeds.{seed_table}
 use Rattle.decisions.specs.Outcomes.{Outcome}
@@ -26,7 +26,7 @@ use Rattle.demands.specs.Demand1.{known_in}
 
 -- done, with this value and log, and so many bytes programmed and erased
 pub record Reports (value : ℕ) (log : Log) (programmed erased : ℕ) (o : Outcome) : Type 0 where
-  pub answer : o.answer ≡ Done
+  pub answer : o.answer ≡ all_done
   pub value-is : o.value ≡ value
   pub log_is : o.log ≡ log
   pub programmed-is : o.flash.programmed ≡ programmed
@@ -44,16 +44,16 @@ decision_of (advance_lamport latest) t = advance_decision (held_of value_tag lam
 
 -- the table with the record that a call decides to write
 abbrev pub new_table : Call → Log → List Raw
-new_table c log = joined (decision_of c (records_of log)).rec (records_of log)
+new_table c log = joined (record_in (decision_of c (records_of log))) (records_of log)
 
 -- a call that decides to write a record, on a flash that refuses nothing
 pub record WritesWell (c : Call) (image : List ℕ) (log : Log) : Type 0 where
-  pub append : known_in c ≡ true → (s seq head : ℕ) → log.state ≡ Active s seq head → (decision_of c (records_of log)).write ≡ true → head < head_max
-      → Reports (decision_of c (records_of log)).value (log_of (Active s seq (head + 1)) log.next_seq (new_table c log)) slot_size 0
+  pub append : known_in c ≡ true → (s seq head : ℕ) → log.state ≡ Active s seq head → writes_record (decision_of c (records_of log)) ≡ true → head < head_max
+      → Reports (reply_in (decision_of c (records_of log))) (log_of (Active s seq (head + 1)) log.next_seq (new_table c log)) slot_size 0
       (outcome_of c image log healthy)
-  pub commit : known_in c ≡ true → (s seq head : ℕ) → log.state ≡ Active s seq head → (decision_of c (records_of log)).write ≡ true
+  pub commit : known_in c ≡ true → (s seq head : ℕ) → log.state ≡ Active s seq head → writes_record (decision_of c (records_of log)) ≡ true
       → head ≡ head_max → 1 < sectors_in (length image) → (log.next_seq ≡ seq_max → ⊥)
-      → Reports (decision_of c (records_of log)).value
+      → Reports (reply_in (decision_of c (records_of log)))
       (log_of (Active (sector_after (sectors_in (length image)) s) log.next_seq (length (new_table c log) + 1)) (log.next_seq + 1)
       (new_table c log))
       (slot_size * (length (new_table c log) + 1)) sector_size (outcome_of c image log healthy)

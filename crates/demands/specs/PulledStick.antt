@@ -1,17 +1,17 @@
 -- The pulled stick: whatever is called, refused or cut, no tries are given back, and none are lost that were not begun to be spent.
 -- One call more on the log of a session first, which is a spend, a set or another; then the session.
-use Rattle.std.specs.Prelude.{◌≡◌, Bool, true, false, List, [], ◌∷◌, ◌⊎◌, ℕ, ◌+◌, ◌≤◌, ◌<◌, eqb}
+use Rattle.codec.specs.declared.Raw.{Raw}
+use Rattle.std.specs.Prelude.{Option, Some, ◌≡◌, Bool, true, false, List, [], ◌∷◌, ◌⊎◌, ℕ, ◌+◌, ◌≤◌, ◌<◌, eqb}
 use Rattle.basics.specs.Choice.{pick}
 use Rattle.basics.specs.Answers.{is_done}
 use Rattle.ids.specs.Ids.{counter_tag}
 use Rattle.ids.specs.Counters.{remaining_of}
-use Rattle.codec.specs.declared.OptRaw.{OptRaw}
 use Rattle.bodies.specs.Bodies.{counter_in}
 use Rattle.flash.specs.declared.Plan.{Plan}
 use Rattle.records.specs.declared.Log.{Log}
 use Rattle.records.specs.Logs.{records_of}
 use Rattle.scan.specs.Opening.{open_of}
-use Rattle.reads.specs.Entering.{held_of}
+use Rattle.records.specs.Table.{held_of}
 use Rattle.tries.specs.Tries.{start_of}
 use Rattle.demands.specs.Calls.{Call, put, put-value, put-anchor, format, spend, set-tries, advance_lamport, Typed, NoChance}
 use Rattle.demands.specs.Sessions.{World, opened, Made, outcome, played, Powered, now}
@@ -47,11 +47,11 @@ pub record KeepsTries (w : World) (credential current : ℕ) (plan : Plan) : Typ
 
 -- ---- a set
 -- a record is held, and by it so many tries remain
-abbrev pub Remain : ℕ → OptRaw → Type 0
-Remain tries held = (held.some ≡ true) × (remaining_of (counter_in held.raw.body) ≡ tries)
+abbrev pub Remain : ℕ → Option Raw → Type 0
+Remain tries held = (r : Raw) × (held ≡ Some r) × (remaining_of (counter_in r.body) ≡ tries)
 
 -- the counter that a log holds of a credential, if any
-abbrev pub counter_held : ℕ → Log → OptRaw
+abbrev pub counter_held : ℕ → Log → Option Raw
 counter_held credential log = held_of counter_tag credential (records_of log)
 
 abbrev pub Has : ℕ → ℕ → Log → Type 0
@@ -103,7 +103,7 @@ begun_in credential [] = 0
 begun_in credential (m ∷ ms) = begun credential m.call + begun_in credential ms
 
 -- what is held after so many spends were begun
-pub record Between (tries spends : ℕ) (held : OptRaw) : Type 0 where
+pub record Between (tries spends : ℕ) (held : Option Raw) : Type 0 where
   pub left : ℕ
   pub remain : Remain left held
   -- no tries are given back

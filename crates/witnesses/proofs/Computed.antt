@@ -13,7 +13,7 @@ use Rattle.codec.specs.Slots.{header_slot, header_of, crc_under, slot_of, raw_of
 use Rattle.flash.specs.Image.{sectors_in, slot_at, sector_at, with_slot, with_sector}
 use Rattle.flash.specs.Run.{landed, program, blanked, erase}
 use Rattle.records.specs.declared.Log.{Log}
-use Rattle.records.specs.Table.{place_of, holds, joined, falls, absorbed}
+use Rattle.records.specs.Table.{place_of, holds, joined, falls, absorbed, held_of}
 use Rattle.scan.specs.Choosing.{best_from}
 use Rattle.scan.specs.Reading.{read_from, head_from}
 use Rattle.scan.specs.Opening.{scan_of, open_of}
@@ -21,7 +21,7 @@ use Rattle.records.specs.Fitting.{all_zeros, keys_fit, log_fits}
 use Rattle.sectors.specs.Sectors.{write_records, write_sector}
 use Rattle.sectors.specs.Commits.{commit_from}
 use Rattle.sectors.specs.Appends.{tries_from, append_of}
-use Rattle.reads.specs.Entering.{entry_answer, held_of, room_for}
+use Rattle.reads.specs.Entering.{entry_answer, room_for}
 use Rattle.decisions.specs.Seeds.{seeded, all_known}
 use Rattle.decisions.specs.Outcomes.{entered}
 use Rattle.decisions.specs.Performing.{performed}
@@ -120,7 +120,7 @@ unfolding blank_stick new_stick full_stick unlucky_stick refusals numbers Lasts 
     write_records program with_slot landed slot_of crc_under crc32_of feed eat turns turn finished le_bytes le_number header_slot
 called = record {
   formats = refl;
-  holds = (refl, refl);
+  holds = (_, refl, refl);
   lasts = (refl, (refl, (refl, tt)));
   answers = refl;
   appends = refl;

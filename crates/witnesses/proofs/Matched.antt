@@ -16,9 +16,8 @@ use Rattle.flash.specs.Image.{slot_at, with_slot}
 use Rattle.ids.specs.Ids.{counter_tag}
 use Rattle.ids.specs.Counters.{remaining_of}
 use Rattle.records.specs.declared.Log.{Log}
-use Rattle.records.specs.Table.{place_of, holds}
+use Rattle.records.specs.Table.{place_of, holds, held_of}
 use Rattle.scan.specs.Opening.{open_of}
-use Rattle.reads.specs.Entering.{held_of}
 use Rattle.tries.specs.Tries.{start_of}
 use Rattle.demands.specs.Chance.{cut_at, ChanceMatch}
 use Rattle.demands.specs.Healthy.{healthy}

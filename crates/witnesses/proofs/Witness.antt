@@ -14,8 +14,7 @@ use Rattle.crc.specs.Register.{turn, turns, eat, feed, finished, crc32_of}
 use Rattle.codec.specs.Slots.{header_slot, crc_under, slot_of}
 use Rattle.flash.specs.declared.Plan.{Plan}
 use Rattle.records.specs.declared.Log.{Log}
-use Rattle.records.specs.Table.{place_of, holds}
-use Rattle.reads.specs.Entering.{held_of}
+use Rattle.records.specs.Table.{place_of, holds, held_of}
 use Rattle.tries.specs.Tries.{start_of}
 use Rattle.demands.specs.Chance.{cut_at, ChanceMatch}
 use Rattle.demands.specs.Calls.{NoChance}

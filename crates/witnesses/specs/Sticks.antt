@@ -1,5 +1,5 @@
 -- Concrete sticks, and the calls that are made on them.
-use Rattle.std.specs.Prelude.{true, false, List, [], ◌∷◌, ◌++◌, ℕ, ◌+◌, replicate}
+use Rattle.std.specs.Prelude.{false, Some, None, List, [], ◌∷◌, ◌++◌, ℕ, ◌+◌, replicate}
 use Rattle.ids.specs.declared.CounterState.{CounterState}
 use Rattle.codec.specs.declared.Raw.{Raw}
 use Rattle.codec.specs.Slots.{header_slot, slot_of}
@@ -16,10 +16,10 @@ use Rattle.demands.specs.Sessions.{Made}
 
 -- ---- plans
 abbrev pub refusing : ℕ → Plan
-refusing programs = record { limited = false; units = 0; refuse_erase = false; refuse_programs = programs }
+refusing programs = record { units = None; refuse_erase = false; refuse_programs = programs }
 
 abbrev pub pulled_after : ℕ → Plan
-pulled_after units = record { limited = true; units = units; refuse_erase = false; refuse_programs = 0 }
+pulled_after units = record { units = Some units; refuse_erase = false; refuse_programs = 0 }
 
 abbrev pub made : Call → Plan → Made
 made call plan = record { call = call; plan = plan }

@@ -13,11 +13,11 @@ use Rattle.codec.specs.Slots.{slot_of, crc_under}
 use Rattle.bodies.specs.Bodies.{anchor_record}
 use Rattle.flash.specs.Image.{sectors_in, slot_at, with_slot}
 use Rattle.flash.specs.Run.{program, landed}
-use Rattle.records.specs.Table.{holds, place_of, joined}
+use Rattle.records.specs.Table.{holds, place_of, joined, held_of}
 use Rattle.records.specs.Fitting.{log_fits, all_zeros, keys_fit}
 use Rattle.sectors.specs.Appends.{tries_from, append_of}
 use Rattle.decisions.specs.Decisions.{value_decision, anchor_write, anchor_decision}
-use Rattle.reads.specs.Entering.{entry_answer, held_of, room_for}
+use Rattle.reads.specs.Entering.{entry_answer, room_for}
 use Rattle.decisions.specs.Outcomes.{entered}
 use Rattle.decisions.specs.Performing.{performed}
 use Rattle.counter_log.specs.Calls.{put_value_of, put_anchor_of}

@@ -1,8 +1,10 @@
 -- "Worked by hand (★ is proved, all ★ in a single table)": the starred cases in the paper's order,
 -- each with what the definitions give and what the paper says: bytes, a number, or all that a call comes to.
-use Rattle.std.specs.Prelude.{true, false, List, [], ◌∷◌, map, ℕ, ◌-◌, ◌^◌, replicate}
-use Rattle.basics.specs.Answers.{number_of}
-use Rattle.basics.specs.declared.Answer.TheVariants.{WriteError}
+use Rattle.std.specs.Prelude.{false, Some, None, List, [], ◌∷◌, map, ℕ, ◌-◌, ◌^◌, replicate, Result, Ok, Err}
+use Rattle.std.specs.Result.{result_map_both}
+use Rattle.basics.specs.Answers.{refusal_number, number_of}
+use Rattle.basics.specs.declared.Refusal.{Refusal}
+use Rattle.basics.specs.declared.Refusal.TheVariants.{WriteError}
 use Rattle.crc.specs.Register.{crc32_of}
 use Rattle.ids.specs.declared.CounterState.{CounterState}
 use Rattle.ids.specs.declared.Anchor.{Anchor}
@@ -41,11 +43,11 @@ abbrev holds_five : ℕ → Log
 holds_five id = log_of (Active 0 1 1) 2 (value_record id 5 ∷ [])
 
 abbrev calm : Plan
-calm = record { limited = false; units = 0; refuse_erase = false; refuse_programs = 0 }
+calm = record { units = None; refuse_erase = false; refuse_programs = 0 }
 
 -- one that any write would run down
 abbrev scarce : Plan
-scarce = record { limited = true; units = 100; refuse_erase = false; refuse_programs = 1 }
+scarce = record { units = Some 100; refuse_erase = false; refuse_programs = 1 }
 
 -- a put of an anchor whose head_seq is 2^48
 abbrev anchor_above : Outcome
@@ -54,6 +56,10 @@ anchor_above = put_anchor_of blank (holds_five lamport) scarce (anchor 7 (2 ^ 48
 -- a put of 4 where 5 is held
 abbrev four_over : ℕ → Outcome
 four_over id = put_value_of blank (holds_five id) calm id 4
+
+-- the bytes of a record, or the number of what refuses it
+abbrev spelled : Result Raw Refusal → Result (List ℕ) ℕ
+spelled = result_map_both bytes_of refusal_number
 
 abbrev value_held : Raw → ℕ
 value_held r = value_in r.body
@@ -71,12 +77,12 @@ table =
     -- 3. "Lamport 258: 4C 01 00 00 02 01 00 00 00 00 00 00."
     ∷ row (bytes_of (value_record lamport 258)) (0x4C ∷ 0x01 ∷ 0x00 ∷ 0x00 ∷ 0x02 ∷ 0x01 ∷ 0x00 ∷ 0x00 ∷ 0x00 ∷ 0x00 ∷ 0x00 ∷ 0x00 ∷ [])
     -- 4. "Anchor 7, 2^48 − 1, 9: 41 00 07 00 FF FF FF FF FF FF 09 00;"
-    ∷ row (bytes_of (anchor_record (anchor 7 (2 ^ 48 - 1) 9)).raw)
-    (0x41 ∷ 0x00 ∷ 0x07 ∷ 0x00 ∷ 0xFF ∷ 0xFF ∷ 0xFF ∷ 0xFF ∷ 0xFF ∷ 0xFF ∷ 0x09 ∷ 0x00 ∷ [])
+    ∷ row (spelled (anchor_record (anchor 7 (2 ^ 48 - 1) 9)))
+    (Ok (0x41 ∷ 0x00 ∷ 0x07 ∷ 0x00 ∷ 0xFF ∷ 0xFF ∷ 0xFF ∷ 0xFF ∷ 0xFF ∷ 0xFF ∷ 0x09 ∷ 0x00 ∷ []))
     -- "head_seq 2^48 gives 6": the record does, and the call, with log, image and plan as they were
-    ∷ row (number_of (anchor_record (anchor 7 (2 ^ 48) 9)).answer) 6
+    ∷ row (spelled (anchor_record (anchor 7 (2 ^ 48) 9))) (Err 6)
     ∷ row (number_of anchor_above.answer) 6
-    ∷ row anchor_above (refused WriteError (holds_five lamport) (flash_of blank scarce))
+    ∷ row anchor_above (refused (Err WriteError) (holds_five lamport) (flash_of blank scarce))
     -- 5. "Total 1, at-reset 2: remaining 0."
     ∷ row (remaining_of (counter 3 1 2)) 0
     -- "Allowance 3, total 4, at-reset 0: 0."

@@ -3,19 +3,19 @@
 // back, and two checksums of the image: of all of it, which shows where sealed slots stand, and of what the slots hold.
 #![tactic(auto)]
 
-use codec::Raw;
-use decisions::{Done, Seed};
+use codec::{Raw, SLOT};
+use decisions::{Done, SEEDS, Seed};
 use flash::Plan;
 use ids::{Anchor, CounterState};
 use list::LONGEST;
-use records::{Log, State};
+use records::{LIMIT, Log, State};
 use std::io;
 
 fn byte(rt: &impl Print, b: u8) -> io::Result<()> {
     print!(rt; "{b:02x}")
 }
 
-fn slot_line(rt: &impl Print, label: &str, slot: [u8; 16]) -> io::Result<()> {
+fn slot_line(rt: &impl Print, label: &str, slot: [u8; SLOT]) -> io::Result<()> {
     print!(rt; "{label}")?;
     for b in slot {
         byte(rt, b)?;
@@ -43,6 +43,14 @@ fn anchor(format_gen: u16, head_seq: u64, head_slot: u16) -> Anchor {
     }
 }
 
+// An anchor's slot, or the number of what refuses it.
+fn anchor_line(rt: &impl Print, label: &str, anchor: Anchor) -> io::Result<()> {
+    match bodies::anchor_record(anchor) {
+        Ok(raw) => slot_line(rt, label, codec::encode(raw, 1)),
+        Err(refusal) => number_line(rt, label, refusal.number()),
+    }
+}
+
 // Cases 1 to 5, each as the functions give it.
 fn starred(rt: &impl Print) -> io::Result<()> {
     slot_line(rt, "header 1: ", codec::encode_header(1))?;
@@ -60,22 +68,20 @@ fn starred(rt: &impl Print) -> io::Result<()> {
         "lamport 258: ",
         codec::encode(bodies::value_record(ids::LAMPORT, 258), 1),
     )?;
-    let fits = bodies::anchor_record(anchor(7, 281_474_976_710_655, 9));
-    let raw = fits.raw;
-    slot_line(rt, "anchor 7, 2^48 - 1, 9: ", codec::encode(raw, 1))?;
-    let above = bodies::anchor_record(anchor(7, 281_474_976_710_656, 9));
-    let answer = above.answer;
-    number_line(rt, "anchor 7, 2^48, 9: ", basics::number(answer))?;
+    anchor_line(
+        rt,
+        "anchor 7, 2^48 - 1, 9: ",
+        anchor(7, 281_474_976_710_655, 9),
+    )?;
+    anchor_line(rt, "anchor 7, 2^48, 9: ", anchor(7, 281_474_976_710_656, 9))?;
     number_line(rt, "remaining of 3, 1, 2: ", counter(3, 1, 2).remaining())?;
-    number_line(rt, "remaining of 3, 4, 0: ", counter(3, 4, 0).remaining())?;
-    Ok(())
+    number_line(rt, "remaining of 3, 4, 0: ", counter(3, 4, 0).remaining())
 }
 
 // A flash that refuses nothing.
 fn calm() -> Plan {
     Plan {
-        limited: false,
-        units: 0,
+        units: None,
         refuse_erase: false,
         refuse_programs: 0,
     }
@@ -83,10 +89,8 @@ fn calm() -> Plan {
 
 fn refusing(programs: u32) -> Plan {
     Plan {
-        limited: false,
-        units: 0,
-        refuse_erase: false,
         refuse_programs: programs,
+        ..calm()
     }
 }
 
@@ -95,14 +99,9 @@ fn number_word(rt: &impl Print, n: u64) -> io::Result<()> {
 }
 
 fn log_words(rt: &impl Print, log: Log) -> io::Result<()> {
-    let state = log.state;
-    match state {
-        State::Unformatted => {
-            print!(rt; " unformatted")?;
-        }
-        State::Failed => {
-            print!(rt; " failed")?;
-        }
+    match log.state {
+        State::Unformatted => print!(rt; " unformatted")?,
+        State::Failed => print!(rt; " failed")?,
         State::Active { sector, seq, head } => {
             print!(rt; " active")?;
             number_word(rt, sector as u64)?;
@@ -119,32 +118,25 @@ fn log_words(rt: &impl Print, log: Log) -> io::Result<()> {
 // The checksum of the first twelve bytes of each slot. One of whole slots doesn't see what they hold, since each ends in its own.
 fn contents(image: &[u8]) -> u32 {
     let mut s = crc::start();
-    let mut a: usize = 0;
-    while a < image.len() {
-        if image.len() - a < 16 {
-            break;
-        }
-        let e = a + 12;
-        s = crc::update(s, &image[a..e]);
-        a += 16;
+    let (slots, _) = image.as_chunks::<SLOT>();
+    for slot in slots {
+        s = crc::update(s, &slot[..12]);
     }
     crc::finish(s)
 }
 
 // What a call did, on a line; the log is handed on.
 fn call_line(rt: &impl Print, label: &str, image: &[u8], d: Done) -> io::Result<Log> {
-    let answer = d.answer;
-    let number = basics::number(answer);
+    let number = basics::number(d.answer.map(|_| ()));
     print!(rt; "{label}{number}")?;
-    number_word(rt, d.value)?;
+    number_word(rt, d.answer.unwrap_or(0))?;
     number_word(rt, d.programmed as u64)?;
     number_word(rt, d.erased as u64)?;
-    let log = d.log;
-    log_words(rt, log)?;
+    log_words(rt, d.log)?;
     let whole = crc::crc32(image);
     let held = contents(image);
     println!(rt; " image {whole:08x} {held:08x}")?;
-    Ok(log)
+    Ok(d.log)
 }
 
 fn listed(rt: &impl Print, image: &[u8]) -> io::Result<()> {
@@ -156,39 +148,35 @@ fn listed(rt: &impl Print, image: &[u8]) -> io::Result<()> {
 // The user PIN and 31 records that nobody knows, in a sector whose next slot is this.
 fn crowded(head: u32) -> Log {
     let mut table = records::empty_table();
-    for i in 0..32usize {
-        table[i] = Raw {
+    for (i, place) in table.iter_mut().enumerate() {
+        *place = Raw {
             tag: 0x60,
             id: i as u8,
             body: [0; 10],
         };
     }
-    let c = CounterState::fresh(3);
-    table[0] = bodies::counter_record(1, c);
-    let state = State::Active {
-        sector: 0,
-        seq: 1,
-        head: head,
-    };
+    table[0] = bodies::counter_record(1, CounterState::fresh(3));
     Log {
-        state: state,
+        state: State::Active {
+            sector: 0,
+            seq: 1,
+            head,
+        },
         next_seq: 2,
-        count: 32,
-        table: table,
+        count: LIMIT,
+        table,
     }
 }
 
-fn user_pin() -> [Seed; 8] {
-    let c = CounterState::fresh(3);
-    let z = CounterState::fresh(0);
+fn user_pin() -> [Seed; SEEDS] {
     let none = Seed {
         credential: 0,
-        state: z,
+        state: CounterState::fresh(0),
     };
-    let mut seeds = [none; 8];
+    let mut seeds = [none; SEEDS];
     seeds[0] = Seed {
         credential: 1,
-        state: c,
+        state: CounterState::fresh(3),
     };
     seeds
 }
@@ -244,8 +232,7 @@ fn refused_programs(rt: &impl Print) -> io::Result<()> {
 // Case 8: "Blank 8,192 bytes, format user PIN with 3, one spend (answers 3)", and the listing.
 fn one_spend(rt: &impl Print) -> io::Result<()> {
     let mut image = [0xFFu8; 8192];
-    let o = scan::open(&image);
-    let blank = o.log;
+    let blank = scan::open(&image).log;
     let d = counter_log::format(&mut image, blank, calm(), user_pin(), 1);
     let log = call_line(rt, "format: ", &image, d)?;
     let d = tries::spend(&mut image, log, calm(), 1, 9);
@@ -279,10 +266,8 @@ fn refused(rt: &impl Print) -> io::Result<()> {
     let d = counter_log::format(&mut image, crowded(33), calm(), user_pin(), 1);
     call_line(rt, "format, active: ", &image, d)?;
     let erase_refused = Plan {
-        limited: false,
-        units: 0,
         refuse_erase: true,
-        refuse_programs: 0,
+        ..calm()
     };
     let blank = records::empty(State::Unformatted, 1);
     let d = counter_log::format(&mut image, blank, erase_refused, user_pin(), 1);
