@@ -1,5 +1,5 @@
-// What is written of a call: four of the five fields of an answer. Each function answers the place one past what it put.
-ghost use Rattle.std.specs.Prelude.{◌≤◌, length, IfOk};
+// What is written of a call: four of the five fields of an answer, each with a bar behind it.
+ghost use Rattle.std.specs.Prelude.{◌≤◌};
 
 use crate::output;
 use codec::Raw;
@@ -7,165 +7,89 @@ use flash::Plan;
 use records::{LIMIT, Log, State};
 use script::Given;
 use std::io;
+use std::io::Write;
 
-// Puts the value of a call, and a bar.
-fn value_text(rt: &impl Print, out: &mut [u8], at: usize, v: Given) -> io::Result<usize>
-    requires { (64 ≤ length out.old) × (at ≤ length out.old) }
-    ensures { IfOk result (λ to. to ≤ length out.old) }
-{
-    match v {
-        Given::Dash => output::bytes(rt, out, at, b"-|"),
-        Given::Absent => output::bytes(rt, out, at, b"none|"),
-        Given::One(x) => output::field(rt, out, at, x, b'|'),
+// Writes the value of a call, and a bar.
+fn value_text(out: &mut impl Write, value: Given) -> io::Result<()> {
+    match value {
+        Given::Dash => out.write_all(b"-|"),
+        Given::Absent => out.write_all(b"none|"),
+        Given::One(x) => write!(out, "{x}|"),
         Given::Three {
             first,
             second,
             third,
-        } => {
-            let a = output::field(rt, out, at, first, b' ')?;
-            let b = output::field(rt, out, a, second, b' ')?;
-            output::field(rt, out, b, third, b'|')
-        }
+        } => write!(out, "{first} {second} {third}|"),
     }
 }
 
-// Puts a plan's power, and a space.
-fn units(rt: &impl Print, out: &mut [u8], at: usize, plan: Plan) -> io::Result<usize>
-    requires { (64 ≤ length out.old) × (at ≤ length out.old) }
-    ensures { IfOk result (λ to. to ≤ length out.old) }
-{
-    if plan.limited {
-        return output::field(rt, out, at, plan.units, b' ');
+// Writes a plan, and a bar.
+fn plan_text(out: &mut impl Write, plan: Plan) -> io::Result<()> {
+    match plan.units {
+        Some(units) => write!(out, "{units}")?,
+        None => out.write_all(b"inf")?,
     }
-    output::bytes(rt, out, at, b"inf ")
+    let refuse_erase = u8::from(plan.refuse_erase);
+    write!(out, " {refuse_erase} {}|", plan.refuse_programs)
 }
 
-// Puts a plan, and a bar.
-fn plan_text(rt: &impl Print, out: &mut [u8], at: usize, plan: Plan) -> io::Result<usize>
-    requires { (64 ≤ length out.old) × (at ≤ length out.old) }
-    ensures { IfOk result (λ to. to ≤ length out.old) }
-{
-    let a = units(rt, out, at, plan)?;
-    let b = output::field(rt, out, a, plan.refuse_erase as u64, b' ')?;
-    output::field(rt, out, b, plan.refuse_programs as u64, b'|')
-}
-
-// Puts a log's state, and a space.
-fn state_text(rt: &impl Print, out: &mut [u8], at: usize, state: State) -> io::Result<usize>
-    requires { (64 ≤ length out.old) × (at ≤ length out.old) }
-    ensures { IfOk result (λ to. to ≤ length out.old) }
-{
+// Writes a log's state.
+fn state_text(out: &mut impl Write, state: State) -> io::Result<()> {
     match state {
-        State::Unformatted => output::bytes(rt, out, at, b"unformatted "),
-        State::Failed => output::bytes(rt, out, at, b"failed "),
-        State::Active { sector, seq, head } => {
-            let a = output::bytes(rt, out, at, b"active ")?;
-            let b = output::field(rt, out, a, sector as u64, b' ')?;
-            let c = output::field(rt, out, b, seq as u64, b' ')?;
-            output::field(rt, out, c, head as u64, b' ')
-        }
+        State::Unformatted => out.write_all(b"unformatted"),
+        State::Failed => out.write_all(b"failed"),
+        State::Active { sector, seq, head } => write!(out, "active {sector} {seq} {head}"),
     }
 }
 
-// Puts a space, and the twelve bytes of a record.
-fn record(rt: &impl Print, out: &mut [u8], at: usize, r: Raw) -> io::Result<usize>
-    requires { (64 ≤ length out.old) × (at ≤ length out.old) }
-    ensures { IfOk result (λ to. to ≤ length out.old) }
-{
-    let body = r.body;
-    let a = output::byte(rt, out, at, b' ')?;
-    let b = output::hex(rt, out, a, r.tag)?;
-    let mut to = output::hex(rt, out, b, r.id)?;
-    let mut i: usize = 0;
-    while i < 10 {
-        to = output::hex(rt, out, to, body[i])?;
-        i += 1;
-    }
-    Ok(to)
+// Writes a space, and the twelve bytes of a record.
+fn record(out: &mut impl Write, r: Raw) -> io::Result<()> {
+    out.write_all(b" ")?;
+    output::hex(out, &[r.tag, r.id])?;
+    output::hex(out, &r.body)
 }
 
 // Whether a record is zeros only.
-fn is_zeros(r: Raw) -> bool {
-    let body = r.body;
-    let mut bits = r.tag | r.id;
-    let mut i: usize = 0;
-    while i < 10 {
-        bits = bits | body[i];
-        i += 1;
-    }
-    bits == 0
+fn is_zeros(r: &Raw) -> bool {
+    r.tag == 0 && r.id == 0 && r.body == [0; 10]
 }
 
 // How many places are written: those in the count, and beyond them up to the last that isn't zeros.
 fn places(table: [Raw; LIMIT], count: usize) -> usize
     ensures { result ≤ 32 }
 {
-    let mut n: usize = LIMIT;
-    while count < n {
-        if !is_zeros(table[n - 1]) {
-            return n;
-        }
-        n -= 1;
-    }
-    n
+    let filled = table
+        .iter()
+        .rposition(|r| !is_zeros(r))
+        .map_or(0, |last| last + 1);
+    filled.max(count.min(LIMIT))
 }
 
-// Puts the first n records of a table.
-fn table_text(
-    rt: &impl Print,
-    out: &mut [u8],
-    at: usize,
-    table: [Raw; LIMIT],
-    n: usize,
-) -> io::Result<usize>
-    requires in_bounds { (64 ≤ length out.old) × (at ≤ length out.old) }
-    requires n_bound { n ≤ 32 }
-    ensures { IfOk result (λ to. to ≤ length out.old) }
-{
-    let mut to = at;
-    let mut i: usize = 0;
-    while i < n {
-        to = record(rt, out, to, table[i])?;
-        i += 1;
-    }
-    Ok(to)
-}
-
-// Puts a log.
-fn log_text(rt: &impl Print, out: &mut [u8], at: usize, log: Log) -> io::Result<usize>
-    requires { (64 ≤ length out.old) × (at ≤ length out.old) }
-    ensures { IfOk result (λ to. to ≤ length out.old) }
-{
-    let state = log.state;
+// Writes a log.
+fn log_text(out: &mut impl Write, log: Log) -> io::Result<()> {
+    state_text(out, log.state)?;
+    write!(out, " next {} count {}", log.next_seq, log.count)?;
     let table = log.table;
-    let a = state_text(rt, out, at, state)?;
-    let b = output::bytes(rt, out, a, b"next ")?;
-    let c = output::field(rt, out, b, log.next_seq as u64, b' ')?;
-    let d = output::bytes(rt, out, c, b"count ")?;
-    let e = output::number(rt, out, d, log.count as u64)?;
-    table_text(rt, out, e, table, places(table, log.count))
+    for r in &table[..places(table, log.count)] {
+        record(out, *r)?;
+    }
+    Ok(())
 }
 
-// Puts four of the five fields of an answer, each with a bar behind it.
+// Writes four of the five fields of an answer, each with a bar behind it.
 pub fn answer(
-    rt: &impl Print,
-    out: &mut [u8],
-    at: usize,
+    out: &mut impl Write,
     number: u8,
-    v: Given,
+    value: Given,
     programmed: usize,
     erased: usize,
     plan: Plan,
     log: Log,
-) -> io::Result<usize>
-    requires { (64 ≤ length out.old) × (at ≤ length out.old) }
-    ensures { IfOk result (λ to. to ≤ length out.old) }
-{
-    let a = output::field(rt, out, at, number as u64, b' ')?;
-    let b = value_text(rt, out, a, v)?;
-    let c = output::field(rt, out, b, programmed as u64, b' ')?;
-    let d = output::field(rt, out, c, erased as u64, b'|')?;
-    let e = plan_text(rt, out, d, plan)?;
-    let f = log_text(rt, out, e, log)?;
-    output::byte(rt, out, f, b'|')
+) -> io::Result<()> {
+    write!(out, "{number} ")?;
+    value_text(out, value)?;
+    write!(out, "{programmed} {erased}|")?;
+    plan_text(out, plan)?;
+    log_text(out, log)?;
+    out.write_all(b"|")
 }

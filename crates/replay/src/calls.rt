@@ -1,366 +1,197 @@
-// What can write: each line reads its numbers, makes the request on a plan in its place, and says what was answered.
-// A line that isn't one of these or can't be read has `ok` false.
+// What can write: each line gives a request, which is made on a plan in its place; and what was answered.
 ghost use Rattle.std.specs.Prelude.{◌≤◌, [], ◌∷◌, length};
 ghost use Rattle.script.specs.Limits.{Within};
 
-use basics::Answer;
+use basics::Refusal;
 use decisions::{Done, SEEDS, Seed};
 use flash::Plan;
 use host::{Kind, Request};
 use ids::{Anchor, CounterState};
 use records::Log;
-use script::{Given, MAX_8, MAX_16, MAX_32, MAX_64, Numbers};
+use script::{Given, MAX_8, MAX_16, MAX_32, MAX_64};
 
 // What a call on an image answered.
 #[derive(Clone, Copy)]
 pub struct Work {
-    pub ok: bool,
     pub value: Given,
     pub done: Done,
 }
 
-// What can write.
-#[derive(Clone, Copy)]
-enum Call {
-    Put,
-    PutValue,
-    PutAnchor,
-    Format,
-    Spend,
-    Set,
-    AdvanceLamport,
-    Program,
-    Erase,
-    Attempt,
-    Other,
-}
+// The limits of a credential, its allowance, its total and its total at the last reset.
+const COUNTER: [u64; 4] = [MAX_8, MAX_8, MAX_32, MAX_32];
 
-// The seeds on a line.
-#[derive(Clone, Copy)]
-struct Seeds {
-    ok: bool,
-    seeds: [Seed; SEEDS],
-}
-
-// A line that is no such call: log and plan as they were.
-fn unwritten(log: Log, plan: Plan) -> Work {
-    let done = Done {
-        answer: Answer::Done,
-        value: 0,
-        programmed: 0,
-        erased: 0,
-        plan: plan,
-        log: log,
+// The credential and counter of four such numbers.
+fn seed_of(numbers: [u64; 4]) -> Seed
+    requires { Within numbers (255 ∷ 255 ∷ 4294967295 ∷ 4294967295 ∷ []) }
+{
+    let [credential, allowance, total, at_reset] = numbers;
+    let state = CounterState {
+        total: total as u32,
+        at_reset: at_reset as u32,
+        allowance: allowance as u8,
     };
-    Work {
-        ok: false,
-        value: Given::Dash,
-        done: done,
+    Seed {
+        credential: credential as u8,
+        state,
+    }
+}
+
+// The line `put`.
+fn put(line: &[u8], e: usize) -> Option<Request> {
+    let Seed { credential, state } = seed_of(script::all_numbers(line, e, COUNTER)?);
+    Some(Request::of(Kind::Put {
+        credential,
+        new: state,
+    }))
+}
+
+// The line `put_value`.
+fn put_value(line: &[u8], e: usize) -> Option<Request> {
+    let [id, new] = script::all_numbers(line, e, [MAX_8, MAX_64])?;
+    let id = id as u8;
+    Some(Request::of(Kind::PutValue { id, new }))
+}
+
+// The line `put_anchor`.
+fn put_anchor(line: &[u8], e: usize) -> Option<Request> {
+    let [format_gen, head_seq, head_slot] = script::all_numbers(line, e, [MAX_16, MAX_64, MAX_16])?;
+    let new = Anchor {
+        format_gen: format_gen as u16,
+        head_seq,
+        head_slot: head_slot as u16,
+    };
+    Some(Request::of(Kind::PutAnchor(new)))
+}
+
+// Seeds up to the line's end; places not written are zeros.
+fn seeds_at(line: &[u8], at: usize) -> Option<[Seed; SEEDS]> {
+    let none = Seed {
+        credential: 0,
+        state: CounterState::fresh(0),
+    };
+    let mut seeds = [none; SEEDS];
+    let mut from = at;
+    for place in seeds.iter_mut() {
+        if line.len() <= from {
+            break;
+        }
+        let (numbers, next) = script::some_numbers(line, from, COUNTER)?;
+        *place = seed_of(numbers);
+        from = next;
+    }
+    if from < line.len() {
+        return None;
+    }
+    Some(seeds)
+}
+
+// The line `format`.
+fn format(line: &[u8], e: usize) -> Option<Request> {
+    let ([count], next) = script::some_numbers(line, e, [MAX_64])?;
+    let seeds = seeds_at(line, next)?;
+    Some(Request::format(seeds, count as usize))
+}
+
+// The line `spend`.
+fn spend(line: &[u8], e: usize) -> Option<Request> {
+    let [credential, current] = script::all_numbers(line, e, [MAX_8, MAX_8])?;
+    Some(Request::of(Kind::Spend {
+        credential: credential as u8,
+        current: current as u8,
+    }))
+}
+
+// The line `set`.
+fn set(line: &[u8], e: usize) -> Option<Request> {
+    let [credential, tries] = script::all_numbers(line, e, [MAX_8, MAX_8])?;
+    Some(Request::of(Kind::Set {
+        credential: credential as u8,
+        tries: tries as u8,
+    }))
+}
+
+// The line `advance_lamport`.
+fn advance_lamport(line: &[u8], e: usize) -> Option<Request> {
+    let [seen] = script::all_numbers(line, e, [MAX_64])?;
+    Some(Request::of(Kind::AdvanceLamport { seen }))
+}
+
+// The line `program`.
+fn program(line: &[u8], e: usize) -> Option<Request> {
+    let ([sector, slot], next) = script::some_numbers(line, e, [MAX_64, MAX_64])?;
+    let bytes = script::slot_at(line, next)?;
+    Some(Request::program(sector as usize, slot as usize, bytes))
+}
+
+// The line `erase`.
+fn erase(line: &[u8], e: usize) -> Option<Request> {
+    let [sector] = script::all_numbers(line, e, [MAX_64])?;
+    let sector = sector as usize;
+    Some(Request::of(Kind::Erase { sector }))
+}
+
+// The request of a line whose first word ends at `e`.
+fn request_of(line: &[u8], e: usize) -> Option<Request>
+    requires { e ≤ length line.now }
+{
+    match &line[..e] {
+        b"put" => put(line, e),
+        b"put_value" => put_value(line, e),
+        b"put_anchor" => put_anchor(line, e),
+        b"format" => format(line, e),
+        b"spend" => spend(line, e),
+        b"set" => set(line, e),
+        b"advance_lamport" => advance_lamport(line, e),
+        b"program" => program(line, e),
+        b"erase" => erase(line, e),
+        _ => None,
+    }
+}
+
+// What a request hands back beside its number: 0 beside a refusal, where it tells a value.
+fn value_of(request: Request, answer: Result<u64, Refusal>) -> Given {
+    match request.kind {
+        Kind::Spend { .. } | Kind::AdvanceLamport { .. } => Given::One(answer.unwrap_or(0)),
+        _ => Given::Dash,
     }
 }
 
 // A request on a plan in its place. The plan handed back is the one that a second request, which asks nothing, finds there.
 fn in_place(image: &mut [u8], log: Log, plan: Plan, request: Request) -> Done {
     let turns = host::in_turn(image, log, plan, request, Request::of(Kind::Nothing));
-    let first = turns.first;
-    let second = turns.second;
-    let answer = first.answer;
-    let left = second.plan;
-    let next = first.log;
     Done {
-        answer: answer,
-        value: first.value,
-        programmed: first.programmed,
-        erased: first.erased,
-        plan: left,
-        log: next,
+        plan: turns.second.plan,
+        ..turns.first
     }
-}
-
-// A call that answers no value.
-fn quiet(done: Done) -> Work {
-    Work {
-        ok: true,
-        value: Given::Dash,
-        done: done,
-    }
-}
-
-// A call that answers a number.
-fn telling(done: Done) -> Work {
-    Work {
-        ok: true,
-        value: Given::One(done.value),
-        done: done,
-    }
-}
-
-// The line `put`.
-fn put(line: &[u8], e: usize, image: &mut [u8], log: Log, plan: Plan) -> Work {
-    let n = script::all_numbers(line, e, [MAX_8, MAX_8, MAX_32, MAX_32], 4);
-    if !n.ok {
-        return unwritten(log, plan);
-    }
-    let x = n.x;
-    let new = CounterState {
-        total: x[2] as u32,
-        at_reset: x[3] as u32,
-        allowance: x[1] as u8,
-    };
-    let put = Kind::Put {
-        credential: x[0] as u8,
-        new: new,
-    };
-    quiet(in_place(image, log, plan, Request::of(put)))
-}
-
-// The line `put_value`.
-fn put_value(line: &[u8], e: usize, image: &mut [u8], log: Log, plan: Plan) -> Work {
-    let n = script::all_numbers(line, e, [MAX_8, MAX_64, 0, 0], 2);
-    if !n.ok {
-        return unwritten(log, plan);
-    }
-    let x = n.x;
-    let put = Kind::PutValue {
-        id: x[0] as u8,
-        new: x[1],
-    };
-    quiet(in_place(image, log, plan, Request::of(put)))
-}
-
-// The line `put_anchor`.
-fn put_anchor(line: &[u8], e: usize, image: &mut [u8], log: Log, plan: Plan) -> Work {
-    let n = script::all_numbers(line, e, [MAX_16, MAX_64, MAX_16, 0], 3);
-    if !n.ok {
-        return unwritten(log, plan);
-    }
-    let x = n.x;
-    let new = Anchor {
-        format_gen: x[0] as u16,
-        head_seq: x[1],
-        head_slot: x[2] as u16,
-    };
-    quiet(in_place(image, log, plan, Request::of(Kind::PutAnchor(new))))
-}
-
-// A seed of zeros.
-fn no_seed() -> Seed {
-    let c = CounterState::fresh(0);
-    Seed {
-        credential: 0,
-        state: c,
-    }
-}
-
-// The seed of four numbers.
-fn seed_of(n: Numbers) -> Seed
-    requires { Within n.x (255 ∷ 255 ∷ 4294967295 ∷ 4294967295 ∷ []) }
-{
-    let x = n.x;
-    let c = CounterState {
-        total: x[2] as u32,
-        at_reset: x[3] as u32,
-        allowance: x[1] as u8,
-    };
-    Seed {
-        credential: x[0] as u8,
-        state: c,
-    }
-}
-
-// Seeds up to the line's end; places not written are zeros.
-fn seeds_at(line: &[u8], at: usize) -> Seeds {
-    let z = no_seed();
-    let mut seeds = [z; SEEDS];
-    let mut from = at;
-    let mut i: usize = 0;
-    while i < SEEDS {
-        if line.len() <= from {
-            return Seeds {
-                ok: true,
-                seeds: seeds,
-            };
-        }
-        let n = script::some_numbers(line, from, [MAX_8, MAX_8, MAX_32, MAX_32], 4);
-        if !n.ok {
-            return Seeds {
-                ok: false,
-                seeds: seeds,
-            };
-        }
-        let s = seed_of(n);
-        seeds[i] = s;
-        from = n.next;
-        i += 1;
-    }
-    Seeds {
-        ok: line.len() <= from,
-        seeds: seeds,
-    }
-}
-
-// The line `format`.
-fn format(line: &[u8], e: usize, image: &mut [u8], log: Log, plan: Plan) -> Work {
-    let n = script::some_numbers(line, e, [MAX_64, 0, 0, 0], 1);
-    let s = seeds_at(line, n.next);
-    if !n.ok {
-        return unwritten(log, plan);
-    }
-    if !s.ok {
-        return unwritten(log, plan);
-    }
-    let x = n.x;
-    let seeds = s.seeds;
-    let request = Request::format(seeds, x[0] as usize);
-    quiet(in_place(image, log, plan, request))
-}
-
-// The line `spend`.
-fn spend(line: &[u8], e: usize, image: &mut [u8], log: Log, plan: Plan) -> Work {
-    let n = script::all_numbers(line, e, [MAX_8, MAX_8, 0, 0], 2);
-    if !n.ok {
-        return unwritten(log, plan);
-    }
-    let x = n.x;
-    let spend = Kind::Spend {
-        credential: x[0] as u8,
-        current: x[1] as u8,
-    };
-    telling(in_place(image, log, plan, Request::of(spend)))
-}
-
-// The line `set`.
-fn set(line: &[u8], e: usize, image: &mut [u8], log: Log, plan: Plan) -> Work {
-    let n = script::all_numbers(line, e, [MAX_8, MAX_8, 0, 0], 2);
-    if !n.ok {
-        return unwritten(log, plan);
-    }
-    let x = n.x;
-    let set = Kind::Set {
-        credential: x[0] as u8,
-        tries: x[1] as u8,
-    };
-    quiet(in_place(image, log, plan, Request::of(set)))
-}
-
-// The line `advance_lamport`.
-fn advance_lamport(line: &[u8], e: usize, image: &mut [u8], log: Log, plan: Plan) -> Work {
-    let n = script::all_numbers(line, e, [MAX_64, 0, 0, 0], 1);
-    if !n.ok {
-        return unwritten(log, plan);
-    }
-    let x = n.x;
-    let advance = Kind::AdvanceLamport { seen: x[0] };
-    telling(in_place(image, log, plan, Request::of(advance)))
-}
-
-// The line `program`.
-fn program(line: &[u8], e: usize, image: &mut [u8], log: Log, plan: Plan) -> Work {
-    let n = script::some_numbers(line, e, [MAX_64, MAX_64, 0, 0], 2);
-    let s = script::slot_at(line, n.next);
-    if !n.ok {
-        return unwritten(log, plan);
-    }
-    if !s.ok {
-        return unwritten(log, plan);
-    }
-    let x = n.x;
-    let bytes = s.bytes;
-    let request = Request::program(x[0] as usize, x[1] as usize, bytes);
-    quiet(in_place(image, log, plan, request))
-}
-
-// The line `erase`.
-fn erase(line: &[u8], e: usize, image: &mut [u8], log: Log, plan: Plan) -> Work {
-    let n = script::all_numbers(line, e, [MAX_64, 0, 0, 0], 1);
-    if !n.ok {
-        return unwritten(log, plan);
-    }
-    let x = n.x;
-    let erase = Kind::Erase {
-        sector: x[0] as usize,
-    };
-    quiet(in_place(image, log, plan, Request::of(erase)))
 }
 
 // The line `attempt`: the try's answer, beside the number's answer, the number, and the tries before.
-fn attempt(line: &[u8], e: usize, image: &mut [u8], log: Log, plan: Plan) -> Work {
-    let n = script::all_numbers(line, e, [MAX_8, MAX_8, MAX_64, 0], 3);
-    if !n.ok {
-        return unwritten(log, plan);
-    }
-    let x = n.x;
-    let turns = host::attempt(image, log, plan, x[0] as u8, x[1] as u8, x[2]);
+fn attempt(line: &[u8], e: usize, image: &mut [u8], log: Log, plan: Plan) -> Option<Work> {
+    let [credential, current, seen] = script::all_numbers(line, e, [MAX_8, MAX_8, MAX_64])?;
+    let turns = host::attempt(image, log, plan, credential as u8, current as u8, seen);
     let numbered = turns.first;
     let spent = turns.second;
-    let answer = numbered.answer;
-    Work {
-        ok: true,
+    Some(Work {
         value: Given::Three {
-            first: basics::number(answer) as u64,
-            second: numbered.value,
-            third: spent.value,
+            first: u64::from(basics::number(numbered.answer.map(|_| ()))),
+            second: numbered.answer.unwrap_or(0),
+            third: spent.answer.unwrap_or(0),
         },
         done: spent,
-    }
+    })
 }
 
-// Which step or attempt a word names.
-fn step_of(word: &[u8]) -> Call {
-    if script::is_same(word, b"program") {
-        return Call::Program;
-    }
-    if script::is_same(word, b"erase") {
-        return Call::Erase;
-    }
-    if script::is_same(word, b"attempt") {
-        return Call::Attempt;
-    }
-    Call::Other
-}
-
-// Which call a word names.
-fn call_of(word: &[u8]) -> Call {
-    if script::is_same(word, b"put") {
-        return Call::Put;
-    }
-    if script::is_same(word, b"put_value") {
-        return Call::PutValue;
-    }
-    if script::is_same(word, b"put_anchor") {
-        return Call::PutAnchor;
-    }
-    if script::is_same(word, b"format") {
-        return Call::Format;
-    }
-    if script::is_same(word, b"spend") {
-        return Call::Spend;
-    }
-    if script::is_same(word, b"set") {
-        return Call::Set;
-    }
-    if script::is_same(word, b"advance_lamport") {
-        return Call::AdvanceLamport;
-    }
-    step_of(word)
-}
-
-// A line whose first word ends at `e`, if it is one that can write.
-pub fn write(line: &[u8], e: usize, image: &mut [u8], log: Log, plan: Plan) -> Work
+// What a line whose first word ends at `e` did, if it is one that can write.
+pub fn write(line: &[u8], e: usize, image: &mut [u8], log: Log, plan: Plan) -> Option<Work>
     requires { e ≤ length line.now }
 {
-    let call = call_of(&line[0..e]);
-    match call {
-        Call::Put => put(line, e, image, log, plan),
-        Call::PutValue => put_value(line, e, image, log, plan),
-        Call::PutAnchor => put_anchor(line, e, image, log, plan),
-        Call::Format => format(line, e, image, log, plan),
-        Call::Spend => spend(line, e, image, log, plan),
-        Call::Set => set(line, e, image, log, plan),
-        Call::AdvanceLamport => advance_lamport(line, e, image, log, plan),
-        Call::Program => program(line, e, image, log, plan),
-        Call::Erase => erase(line, e, image, log, plan),
-        Call::Attempt => attempt(line, e, image, log, plan),
-        Call::Other => unwritten(log, plan),
+    if let b"attempt" = &line[..e] {
+        return attempt(line, e, image, log, plan);
     }
+    let request = request_of(line, e)?;
+    let done = in_place(image, log, plan, request);
+    Some(Work {
+        value: value_of(request, done.answer),
+        done,
+    })
 }

@@ -1,175 +1,139 @@
-// How far a script is: its start, the lines that need no call, and the end of a chunk.
-// These are passed over, or are save and restore; a line that can't be read ends the session.
-ghost use Rattle.std.specs.Prelude.{◌≡◌, ◌≤◌, length, IfOk};
+// What a script works on, and each line of it played: passed over, save and restore, a setting, or a call.
+ghost use Rattle.std.specs.Prelude.{◌≡◌, ◌≤◌, length, IfOk, IfSome};
 ghost use Rattle.flash.specs.Image.{largest};
 ghost use Rattle.replay.specs.Limits.{Sound};
 
-use crate::{changes, output};
+use crate::{calls, queries, views};
 use flash::Plan;
 use records::State;
 use script::Board;
 use std::io;
+use std::io::Write;
 
-// How far a script is: its lines so far, where the text in the buffer ends, whether a line couldn't be read, the board, and the one kept.
+// The board as it stands, and the one that `save` kept. What lies in the image, and what was kept of it, stands in buffers of its own.
 #[derive(Clone, Copy)]
 pub struct Session {
-    pub lines: u64,
-    pub at: usize,
-    pub over: bool,
     pub now: Board,
     pub kept: Board,
 }
 
-// A session, and the place behind the last whole line of a chunk.
-#[derive(Clone, Copy)]
-pub struct Chunk {
-    pub from: usize,
-    pub session: Session,
-}
-
-// The bytes at the front of the input that are still to be read, and the session.
-#[derive(Clone, Copy)]
-pub struct Round {
-    pub have: usize,
-    pub session: Session,
-}
-
-// A session behind a line, and whether the line is done.
-#[derive(Clone, Copy)]
-pub struct Kept {
-    pub ok: bool,
-    pub session: Session,
-}
-
-// A script's start: no image, a plan that refuses nothing, an Unformatted log.
+// A script's start: no image, a plan that refuses nothing, an Unformatted log; and as if this had been kept.
 pub fn start() -> Session
-    ensures { Sound result 0 }
+    ensures { Sound result }
 {
     let plan = Plan {
-        limited: false,
-        units: 0,
+        units: None,
         refuse_erase: false,
         refuse_programs: 0,
     };
-    let log = records::empty(State::Unformatted, 1);
     let board = Board {
         len: 0,
-        plan: plan,
-        log: log,
+        plan,
+        log: records::empty(State::Unformatted, 1),
     };
     Session {
-        lines: 0,
-        at: 0,
-        over: false,
         now: board,
         kept: board,
     }
 }
 
-// A line that is too long can't be read.
-pub fn too_long(session: Session) -> Session
-    ensures { (result.at ≡ session.at) × (result.now.len ≡ session.now.len) × (result.kept.len ≡ session.kept.len) }
+// The board behind a call that can write, if the line is one. The image is copied first, so that what changed is seen.
+fn write(
+    out: &mut impl Write,
+    line: &[u8],
+    e: usize,
+    image: &mut [u8],
+    before: &mut [u8],
+    board: Board,
+) -> io::Result<Option<Board>>
+    requires e_in_bounds { e ≤ length line.now }
+    requires same_len { length before.old ≡ length image.old }
+    ensures { IfOk result (λ o. IfSome o (λ b. b.len ≡ board.len)) }
 {
-    let mut s = session;
-    s.lines = s.lines.wrapping_add(1);
-    s.over = true;
-    s
+    before.copy_from_slice(image);
+    let Some(w) = calls::write(line, e, image, board.log, board.plan) else {
+        return Ok(None);
+    };
+    views::worked(out, w.value, w.done, before, image)?;
+    Ok(Some(Board {
+        len: board.len,
+        plan: w.done.plan,
+        log: w.done.log,
+    }))
 }
 
-// Whether a line is passed over: an empty one, or a remark.
-fn is_passed(line: &[u8]) -> bool {
-    if line.len() == 0 {
-        return true;
+// The board behind any call, or behind a line that shows the image.
+fn call(
+    out: &mut impl Write,
+    line: &[u8],
+    e: usize,
+    image: &mut [u8],
+    before: &mut [u8],
+    board: Board,
+) -> io::Result<Option<Board>>
+    requires e_in_bounds { e ≤ length line.now }
+    requires same_len { length before.old ≡ length image.old }
+    ensures { IfOk result (λ o. IfSome o (λ b. b.len ≡ board.len)) }
+{
+    if let Some(r) = queries::read(line, e, board.log) {
+        views::answered(out, r, board)?;
+        return Ok(Some(board));
     }
-    line[0] == b'#'
+    if let Some(new) = views::look(out, line, image, board)? {
+        return Ok(Some(new));
+    }
+    write(out, line, e, image, before, board)
 }
 
-// A line is counted, and done where it needs no call.
-pub fn keeping(line: &[u8], image: &mut [u8], saved: &mut [u8], session: Session) -> Kept
-    requires largest_in_bounds { (largest ≤ length image.old) × (largest ≤ length saved.old) }
-    requires len_le_largest { (session.now.len ≤ largest) × (session.kept.len ≤ largest) }
-    ensures { (result.session.at ≡ session.at) × ((result.session.now.len ≤ largest) × (result.session.kept.len ≤ largest)) }
+// The board behind any line but those that are passed over, save and restore.
+fn work(
+    out: &mut impl Write,
+    line: &[u8],
+    image: &mut [u8],
+    before: &mut [u8],
+    board: Board,
+) -> io::Result<Option<Board>>
+    requires largest_in_bounds { (largest ≤ length image.old) × (largest ≤ length before.old) }
+    requires len_le_largest { board.len ≤ largest }
+    ensures { IfOk result (λ o. IfSome o (λ b. b.len ≤ largest)) }
 {
-    let mut s = session;
-    s.lines = s.lines.wrapping_add(1);
-    if is_passed(line) {
-        return Kept {
-            ok: true,
-            session: s,
-        };
+    let e = script::until(line, 0, b' ');
+    if let Some(set) = script::setting(line, e, image, board) {
+        return Ok(Some(set));
     }
-    let now = s.now;
-    let kept = s.kept;
-    if script::is_same(line, b"save") {
-        let n = now.len;
-        changes::copy(&image[0..n], saved);
-        s.kept = now;
-        return Kept {
-            ok: true,
-            session: s,
-        };
-    }
-    if script::is_same(line, b"restore") {
-        let n = kept.len;
-        changes::copy(&saved[0..n], image);
-        s.now = kept;
-        return Kept {
-            ok: true,
-            session: s,
-        };
-    }
-    Kept {
-        ok: false,
-        session: s,
-    }
+    let n = board.len;
+    call(out, line, e, &mut image[..n], &mut before[..n], board)
 }
 
-// Writes that this line couldn't be read.
-fn bad_line(rt: &impl Print, out: &mut [u8], at: usize, n: u64) -> io::Result<()>
-    requires { (64 ≤ length out.old) × (at ≤ length out.old) }
+// Plays a line, without its newline and a space at its end; answers whether it could be read.
+pub fn play(
+    out: &mut impl Write,
+    line: &[u8],
+    image: &mut [u8],
+    saved: &mut [u8],
+    before: &mut [u8],
+    session: &mut Session,
+) -> io::Result<bool>
+    requires largest_in_bounds { (largest ≤ length image.old) × (largest ≤ length saved.old) × (largest ≤ length before.old) }
+    requires sound { Sound session.old }
+    ensures { Sound session.new }
 {
-    let a = output::bytes(rt, out, at, b"bad line ")?;
-    let b = output::field(rt, out, a, n, b'\n')?;
-    output::flush(rt, out, b)
-}
-
-// The end of the input.
-pub fn ended(session: Session) -> Round
-    ensures { (result.have ≡ 0)
-        × ((result.session.at ≡ session.at) × ((result.session.now.len ≡ session.now.len) × (result.session.kept.len ≡ session.kept.len))) }
-{
-    let mut s = session;
-    s.over = true;
-    Round {
-        have: 0,
-        session: s,
+    match line {
+        [] | [b'#', ..] => {}
+        b"save" => {
+            let n = session.now.len;
+            saved[..n].copy_from_slice(&image[..n]);
+            session.kept = session.now;
+        }
+        b"restore" => {
+            let n = session.kept.len;
+            image[..n].copy_from_slice(&saved[..n]);
+            session.now = session.kept;
+        }
+        _ => match work(out, line, image, before, session.now)? {
+            Some(board) => session.now = board,
+            None => return Ok(false),
+        },
     }
-}
-
-// The end of a chunk: what stands in the buffer is written, and what is left of the first `all` bytes of input waits at the front.
-pub fn rest(
-    rt: &impl Print,
-    input: &mut [u8],
-    all: usize,
-    out: &mut [u8],
-    c: Chunk,
-) -> io::Result<Round>
-    requires in_bounds { (64 ≤ length out.old) × Sound c.session (length out.old) }
-    requires from_le_all { (c.from ≤ all) × (all ≤ length input.old) }
-    ensures { IfOk result (λ r. (r.have ≤ length input.old) × Sound r.session (length out.old)) }
-{
-    let mut s = c.session;
-    if s.over {
-        bad_line(rt, out, s.at, s.lines)?;
-        return Ok(Round {
-            have: 0,
-            session: s,
-        });
-    }
-    output::flush(rt, out, s.at)?;
-    s.at = 0;
-    Ok(Round {
-        have: script::keep(input, c.from, all),
-        session: s,
-    })
+    Ok(true)
 }

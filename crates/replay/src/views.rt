@@ -1,129 +1,80 @@
 // The line that is written of a call; and the lines that look at the image: open, dump and list.
-ghost use Rattle.std.specs.Prelude.{◌≡◌, ◌≤◌, length, IfOk};
+ghost use Rattle.std.specs.Prelude.{◌≡◌, length, IfOk, IfSome};
 
 use crate::{answers, changes, output};
 use decisions::Done;
-use script::{Board, Given, Reply, Step};
+use list::LONGEST;
+use script::{Board, Given, Reply};
 use std::io;
+use std::io::Write;
 
 // The line of a call that leaves the image as it is.
-pub fn answered(
-    rt: &impl Print,
-    out: &mut [u8],
-    at: usize,
-    r: Reply,
-    board: Board,
-) -> io::Result<usize>
-    requires { (64 ≤ length out.old) × (at ≤ length out.old) }
-    ensures { IfOk result (λ to. to ≤ length out.old) }
-{
-    let answer = r.answer;
-    let value = r.value;
-    let plan = board.plan;
-    let log = board.log;
-    let a = answers::answer(rt, out, at, basics::number(answer), value, 0, 0, plan, log)?;
-    output::byte(rt, out, a, b'\n')
+pub fn answered(out: &mut impl Write, r: Reply, board: Board) -> io::Result<()> {
+    let number = basics::number(r.answer);
+    answers::answer(out, number, r.value, 0, 0, board.plan, board.log)?;
+    out.write_all(b"\n")
 }
 
 // The line of a call that may have changed the image.
 pub fn worked(
-    rt: &impl Print,
-    out: &mut [u8],
-    at: usize,
+    out: &mut impl Write,
     value: Given,
     d: Done,
     before: &[u8],
     image: &[u8],
-) -> io::Result<usize>
-    requires in_bounds { (64 ≤ length out.old) × (at ≤ length out.old) }
-    requires before_len { length before.now ≡ length image.now }
-    ensures { IfOk result (λ to. to ≤ length out.old) }
+) -> io::Result<()>
+    requires { length before.now ≡ length image.now }
 {
-    let answer = d.answer;
-    let plan = d.plan;
-    let log = d.log;
-    let a = answers::answer(
-        rt,
-        out,
-        at,
-        basics::number(answer),
-        value,
-        d.programmed,
-        d.erased,
-        plan,
-        log,
-    )?;
-    let b = changes::changes(rt, out, a, before, image)?;
-    output::byte(rt, out, b, b'\n')
+    let number = basics::number(d.answer.map(|_| ()));
+    answers::answer(out, number, value, d.programmed, d.erased, d.plan, d.log)?;
+    changes::changes(out, before, image)?;
+    out.write_all(b"\n")
 }
 
 // The line `open`: the image is opened anew, and its log becomes the board's.
-fn open(rt: &impl Print, image: &[u8], out: &mut [u8], at: usize, board: Board) -> io::Result<Step>
-    requires { (64 ≤ length out.old) × (at ≤ length out.old) }
-    ensures { IfOk result (λ s. (s.at ≤ length out.old) × (s.board.len ≡ board.len)) }
+fn open(out: &mut impl Write, image: &[u8], board: Board) -> io::Result<Board>
+    ensures { IfOk result (λ b. b.len ≡ board.len) }
 {
     let o = scan::open(image);
-    let answer = o.answer;
-    let log = o.log;
-    let plan = board.plan;
-    let new = Board {
-        len: board.len,
-        plan: plan,
-        log: log,
+    let opened = Board {
+        log: o.log,
+        ..board
     };
     let r = Reply {
-        ok: true,
-        answer: answer,
+        answer: o.answer,
         value: Given::Dash,
     };
-    Ok(Step {
-        ok: true,
-        at: answered(rt, out, at, r, new)?,
-        board: new,
-    })
+    answered(out, r, opened)?;
+    Ok(opened)
 }
 
-// The listing of the image. It begins a buffer, so what stands there is written first.
-fn listing(rt: &impl Print, image: &[u8], out: &mut [u8], at: usize) -> io::Result<usize>
-    requires { at ≤ length out.old }
-    ensures { IfOk result (λ to. to ≤ length out.old) }
-{
-    output::flush(rt, out, at)?;
-    Ok(list::list(image, out))
+// The line `dump`: the whole image in hex.
+fn dump(out: &mut impl Write, image: &[u8]) -> io::Result<()> {
+    output::hex(out, image)?;
+    out.write_all(b"\n")
 }
 
-// A line that looks at the image, if it is one of these.
+// The line `list`: the listing of the image.
+fn listing(out: &mut impl Write, image: &[u8]) -> io::Result<()> {
+    let mut text = [0u8; LONGEST];
+    let len = list::list(image, &mut text);
+    out.write_all(&text[..len])
+}
+
+// The board behind a line that looks at the image, if it is one of these.
 pub fn look(
-    rt: &impl Print,
+    out: &mut impl Write,
     line: &[u8],
     image: &[u8],
-    out: &mut [u8],
-    at: usize,
     board: Board,
-) -> io::Result<Step>
-    requires { (64 ≤ length out.old) × (at ≤ length out.old) }
-    ensures { IfOk result (λ s. (s.at ≤ length out.old) × (s.board.len ≡ board.len)) }
+) -> io::Result<Option<Board>>
+    ensures { IfOk result (λ o. IfSome o (λ b. b.len ≡ board.len)) }
 {
-    if script::is_same(line, b"open") {
-        return open(rt, image, out, at, board);
+    match line {
+        b"open" => return Ok(Some(open(out, image, board)?)),
+        b"dump" => dump(out, image)?,
+        b"list" => listing(out, image)?,
+        _ => return Ok(None),
     }
-    if script::is_same(line, b"dump") {
-        return Ok(Step {
-            ok: true,
-            at: changes::dump(rt, out, at, image)?,
-            board: board,
-        });
-    }
-    if script::is_same(line, b"list") {
-        return Ok(Step {
-            ok: true,
-            at: listing(rt, image, out, at)?,
-            board: board,
-        });
-    }
-    Ok(Step {
-        ok: false,
-        at: at,
-        board: board,
-    })
+    Ok(Some(board))
 }

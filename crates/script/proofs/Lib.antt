@@ -1,6 +1,5 @@
 -- Laws of reading a script: each part, and that what is written reads back.
 pub mod WordsEnds
-pub mod WordsComparing
 pub mod DecimalsAmounts
 pub mod WordsBehind
 pub mod HexPairs

@@ -7,14 +7,11 @@ use native.Mathlib.Omega.{arith}
 use lib.Dec.{eqb}
 use lib.ListN.{length, get_or, set, replicate}
 use lib.Seq.{get_or-set_same, get_or-set_other}
+use Rattle.script.specs.Limits.{Within}
 use borrow.Author.Tests.{eqb-true, eqb-false}
 
--- no number is above its limit
-abbrev pub Below : List ℕ → List ℕ → Type 0
-Below xs most = (j : ℕ) → get_or xs j 0 ≤ get_or most j 0
-
-pub below-zeros : (n : ℕ) (most : List ℕ) → Below (replicate n 0) most
-below-zeros n most j = omega (arith, none n j)
+pub within_zeros : (n : ℕ) (most : List ℕ) → Within (replicate n 0) most
+within_zeros n most j = omega (arith, none n j)
   where
     none : (n j : ℕ) → ◌≡◌ {A = ℕ} (get_or (replicate n 0) j 0) 0
     none zero j = refl
@@ -22,8 +19,8 @@ below-zeros n most j = omega (arith, none n j)
     none (suc n) (suc j) = none n j
 
 -- one number more
-pub below_set : (xs most : List ℕ) (i v : ℕ) → i < length xs → v ≤ get_or most i 0 → Below xs most → Below (set xs i v) most
-below_set xs most i v h fits all j = go (eqb j i) refl
+pub within_set : (xs most : List ℕ) (i v : ℕ) → i < length xs → v ≤ get_or most i 0 → Within xs most → Within (set xs i v) most
+within_set xs most i v h fits all j = go (eqb j i) refl
   where
     go : (t : Bool) → eqb j i ≡ t → get_or (set xs i v) j 0 ≤ get_or most j 0
     go true t =

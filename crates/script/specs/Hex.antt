@@ -1,33 +1,35 @@
 -- "Bytes are lower-case hex with no separator."
-use Rattle.std.specs.Prelude.{Bool, ◌&&◌, List, [], ◌∷◌, ℕ, ◌+◌, ◌-◌, ◌*◌, leb, ltb, get_or, take, drop}
+use Rattle.std.specs.Prelude.{◌&&◌, List, [], ◌∷◌, ℕ, ◌+◌, ◌-◌, ◌*◌, leb, get_or, take, drop, Option, Some, None}
 use Rattle.basics.specs.Choice.{pick}
-use Rattle.script.specs.declared.Byte.{Byte}
-use Rattle.script.specs.declared.Byte.TheVariants.{Is, Refused}
 
--- the value of a digit; 16 where it is none
-unfoldable pub hex_value : ℕ → ℕ
-hex_value c = pick (leb 48 c && leb c 57) (c - 48) (pick (leb 97 c && leb c 102) (c - 87) 16)
+-- the value of a digit
+unfoldable pub hex_value : ℕ → Option ℕ
+hex_value c = pick (leb 48 c && leb c 57) (Some (c - 48)) (pick (leb 97 c && leb c 102) (Some (c - 87)) None)
 
--- both are digits
-abbrev pub are_pair : ℕ → ℕ → Bool
-are_pair a b = ltb (hex_value a) 16 && ltb (hex_value b) 16
-
-abbrev pub pair_of : ℕ → ℕ → ℕ
-pair_of a b = 16 * hex_value a + hex_value b
+-- the byte of two such values
+abbrev pub pair_of : Option ℕ → Option ℕ → Option ℕ
+pair_of (Some high) (Some low) = Some (16 * high + low)
+pair_of (Some high) None = None
+pair_of None low = None
 
 -- the byte whose digits these are
-abbrev pub byte_of : ℕ → ℕ → Byte
-byte_of a b = pick (are_pair a b) (Is (pair_of a b)) Refused
+abbrev pub byte_of : ℕ → ℕ → Option ℕ
+byte_of a b = pair_of (hex_value a) (hex_value b)
 
 -- the byte whose digits stand at `at`; behind the text's end there is none
-unfoldable pub byte_at : ℕ → List ℕ → Byte
+unfoldable pub byte_at : ℕ → List ℕ → Option ℕ
 byte_at at text = byte_of (get_or text at 0) (get_or text (at + 1) 0)
+
+-- what a byte says of a run, with the run behind it: it ends in front of what is none
+abbrev pub run_of : Option ℕ → List ℕ → List ℕ
+run_of (Some b) more = b ∷ more
+run_of None more = []
 
 -- the bytes in front of what is none
 unfoldable pub bytes_of : List ℕ → List ℕ
 bytes_of [] = []
 bytes_of (a ∷ []) = []
-bytes_of (a ∷ b ∷ rest) = pick (are_pair a b) (pair_of a b ∷ bytes_of rest) []
+bytes_of (a ∷ b ∷ rest) = run_of (byte_of a b) (bytes_of rest)
 
 -- as many of those from place `at` on as a buffer of this size has room for from place `to` on
 abbrev pub bytes_in : ℕ → List ℕ → ℕ → ℕ → List ℕ

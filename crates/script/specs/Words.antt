@@ -1,9 +1,7 @@
 -- "Words are separated by one space, lines end with a newline."
-use Rattle.std.specs.Prelude.{Bool, ◌&&◌, List, [], ◌∷◌, ℕ, ◌+◌, eqb, length, get_or, drop}
+use Rattle.std.specs.Prelude.{Bool, ◌&&◌, List, [], ◌∷◌, ℕ, ◌+◌, eqb, length, get_or, drop, Option, Some, None}
 use Rattle.basics.specs.Choice.{pick}
 use Rattle.basics.specs.Lists.{same}
-use Rattle.script.specs.declared.Past.{Past}
-use Rattle.script.specs.declared.Past.TheVariants.{At, Refused}
 
 -- the bytes in front of the first `stop`
 unfoldable pub up_to : ℕ → List ℕ → List ℕ
@@ -25,6 +23,10 @@ space_at at text = eqb (get_or text at 0) space
 abbrev pub word_at : ℕ → List ℕ → List ℕ
 word_at at text = up_to space (drop at text)
 
+-- where the word behind a space ends
+unfoldable pub end_behind : ℕ → List ℕ → Option ℕ
+end_behind at text = pick (space_at at text) (Some (end_of space (at + 1) text)) None
+
 -- past a space and the word behind it, where it is this one
-unfoldable pub skip_of : List ℕ → ℕ → List ℕ → Past
-skip_of word at text = pick (space_at at text && same (word_at (at + 1) text) word) (At (end_of space (at + 1) text)) Refused
+unfoldable pub skip_of : List ℕ → ℕ → List ℕ → Option ℕ
+skip_of word at text = pick (space_at at text && same (word_at (at + 1) text) word) (Some (end_of space (at + 1) text)) None

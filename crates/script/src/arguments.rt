@@ -1,102 +1,50 @@
-// The numbers of a line, up to four of them, each within a limit of its own; and a slot in hex.
-// A line that can't be read has `ok` false.
-ghost use Rattle.std.specs.Prelude.{◌≤◌};
-ghost use Rattle.script.specs.Limits.{Within};
+// The numbers of a line, each within a limit of its own; and a slot in hex.
+ghost use Rattle.script.specs.Limits.{TakenWithin, AllWithin};
 
-use crate::{Taken, decimals, hex};
+use crate::{decimals, hex};
 use codec::SLOT;
 
 // The largest numbers of 8, 16, 32 and 64 bits.
-pub const MAX_8: u64 = 255;
+pub const MAX_8: u64 = u8::MAX as u64;
 
-pub const MAX_16: u64 = 65535;
+pub const MAX_16: u64 = u16::MAX as u64;
 
-pub const MAX_32: u64 = 4294967295;
+pub const MAX_32: u64 = u32::MAX as u64;
 
-pub const MAX_64: u64 = 18446744073709551615;
+pub const MAX_64: u64 = u64::MAX;
 
-// Up to four numbers, and the place behind them.
-#[derive(Clone, Copy)]
-pub struct Numbers {
-    pub ok: bool,
-    pub next: usize,
-    pub x: [u64; 4],
-}
-
-// The first `count` numbers from `at` on, none above its limit.
-pub fn some_numbers(line: &[u8], at: usize, most: [u64; 4], count: usize) -> Numbers
-    requires { count ≤ 4 }
-    ensures { Within result.x most }
+// The first N numbers from `at` on, none above its limit, and the place behind them.
+#[tactic(auto, using(crate::proofs::LimitsLaws::within_zeros, crate::proofs::LimitsLaws::within_set))]
+pub fn some_numbers<const N: usize>(
+    line: &[u8],
+    at: usize,
+    most: [u64; N],
+) -> Option<([u64; N], usize)>
+    ensures { TakenWithin result most.entry }
 {
-    let mut x = [0u64; 4];
+    let mut numbers = [0u64; N];
     let mut next = at;
-    let mut i: usize = 0;
-    while i < count {
-        let Taken::Number {
-            value,
-            next: behind,
-        } = decimals::number(line, next, most[i])
-        else {
-            return Numbers {
-                ok: false,
-                next: next,
-                x: x,
-            };
-        };
-        x[i] = value;
+    for (i, limit) in most.iter().enumerate() {
+        let (value, behind) = decimals::number(line, next, *limit)?;
+        numbers[i] = value;
         next = behind;
-        i += 1;
     }
-    Numbers {
-        ok: true,
-        next: next,
-        x: x,
-    }
+    Some((numbers, next))
 }
 
-// The same, where the line ends behind them; else `ok` is false.
-pub fn all_numbers(line: &[u8], at: usize, most: [u64; 4], count: usize) -> Numbers
-    requires { count ≤ 4 }
-    ensures { Within result.x most }
+// The same, where the line ends behind them.
+pub fn all_numbers<const N: usize>(line: &[u8], at: usize, most: [u64; N]) -> Option<[u64; N]>
+    ensures { AllWithin result most.entry }
 {
-    let n = some_numbers(line, at, most, count);
-    if n.next == line.len() {
-        return n;
+    let (numbers, next) = some_numbers(line, at, most)?;
+    if next == line.len() {
+        Some(numbers)
+    } else {
+        None
     }
-    let x = n.x;
-    Numbers {
-        ok: false,
-        next: n.next,
-        x: x,
-    }
-}
-
-// The bytes of a slot, if they were there.
-#[derive(Clone, Copy)]
-pub struct SlotRead {
-    pub ok: bool,
-    pub bytes: [u8; SLOT],
 }
 
 // A space, the sixteen bytes of a slot, and the line's end.
-pub fn slot_at(line: &[u8], at: usize) -> SlotRead {
-    let mut bytes = [0u8; SLOT];
-    if line.len() <= at {
-        return SlotRead {
-            ok: false,
-            bytes: bytes,
-        };
-    }
-    let n = hex::hex_bytes(line, at + 1, &mut bytes, 0);
-    let mut ok = line[at] == b' ';
-    if n < SLOT {
-        ok = false;
-    }
-    if line.len() - at != 1 + 2 * SLOT {
-        ok = false;
-    }
-    SlotRead {
-        ok: ok,
-        bytes: bytes,
-    }
+pub fn slot_at(line: &[u8], at: usize) -> Option<[u8; SLOT]> {
+    hex::hex_array(line.get(at..)?.strip_prefix(b" ")?)
 }

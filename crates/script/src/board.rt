@@ -1,4 +1,4 @@
-// What the parts of the program `replay` hand each other: the board that calls work on, what a call answered, and what a line made.
+// What the parts of the program `replay` hand each other: the board that calls work on, and what a call answered.
 // They stand on this, and not on each other.
 use basics::Answer;
 use flash::Plan;
@@ -24,15 +24,6 @@ pub enum Given {
 // What a call that only reads answered.
 #[derive(Clone, Copy)]
 pub struct Reply {
-    pub ok: bool,
     pub answer: Answer,
     pub value: Given,
-}
-
-// What a line made of the board, and where the text in the buffer ends.
-#[derive(Clone, Copy)]
-pub struct Step {
-    pub ok: bool,
-    pub at: usize,
-    pub board: Board,
 }

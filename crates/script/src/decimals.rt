@@ -1,57 +1,41 @@
 // Numbers of a line, in decimal: a whole word, and the word behind a space.
 // One that is above its limit is refused.
-ghost use Rattle.std.specs.Prelude.{◌≡◌};
+ghost use Rattle.std.specs.Prelude.{◌≡◌, ◌≤◌, IfSome};
 ghost use Rattle.script.specs.Decimals.{amount_of, number_at};
+ghost use Rattle.script.specs.Limits.{NumberWithin};
 
-use crate::{Taken, Value, words};
+use crate::words;
 
-// The number that a whole word is, if it is at most `most`. It is tested before it grows, so that it never wraps.
-pub fn amount(word: &[u8], most: u64) -> Value
-    ensures { result ≡ amount_of most word.now }
+// The number that a whole word is, if it is at most `most`.
+#[tactic(auto, using(crate::proofs::DecimalsAmounts::amount_laws))]
+pub fn amount(word: &[u8], most: u64) -> Option<u64>
+    ensures value { result ≡ amount_of most word.now }
+    ensures within { IfSome result (λ v. v ≤ most) }
 {
-    if word.len() == 0 {
-        return Value::Refused;
+    if word.is_empty() {
+        return None;
     }
     let mut value: u64 = 0;
-    let mut i: usize = 0;
-    while i < word.len() {
-        let c = word[i];
-        if c < b'0' {
-            return Value::Refused;
+    for c in word {
+        if !c.is_ascii_digit() {
+            return None;
         }
-        if b'9' < c {
-            return Value::Refused;
+        let digit = u64::from(*c - b'0');
+        value = value.checked_mul(10)?.checked_add(digit)?;
+        if most < value {
+            return None;
         }
-        let digit = (c - b'0') as u64;
-        if most / 10 < value {
-            return Value::Refused;
-        }
-        if most - 10 * value < digit {
-            return Value::Refused;
-        }
-        value = 10 * value + digit;
-        i += 1;
     }
-    Value::Is(value)
+    Some(value)
 }
 
-// The number behind the space at `at`, if it is at most `most`.
-pub fn number(text: &[u8], at: usize, most: u64) -> Taken
-    ensures { result ≡ number_at most at text.now }
+// The number behind the space at `at`, if it is at most `most`, and the place behind it.
+#[tactic(auto, using(crate::proofs::WordsBehind::number_laws))]
+pub fn number(text: &[u8], at: usize, most: u64) -> Option<(u64, usize)>
+    ensures taken { result ≡ number_at most at text.now }
+    ensures within { NumberWithin result most }
 {
-    if text.len() <= at {
-        return Taken::Refused;
-    }
-    if text[at] != b' ' {
-        return Taken::Refused;
-    }
-    let from = at + 1;
-    let to = words::end(text, from, b' ');
-    match amount(&text[from..to], most) {
-        Value::Refused => Taken::Refused,
-        Value::Is(value) => Taken::Number {
-            value: value,
-            next: to,
-        },
-    }
+    let to = words::behind(text, at)?;
+    let value = amount(&text[at + 1..to], most)?;
+    Some((value, to))
 }

@@ -1,57 +1,47 @@
-// The words of a line: where one ends, whether two texts are the same, and a word that is expected.
+// The words of a line: where one ends, where the one behind a space ends, and a word that is expected.
 // A place is any number: what is not there is refused.
-ghost use Rattle.std.specs.Prelude.{◌≡◌};
-ghost use Rattle.basics.specs.Lists.{same};
-ghost use Rattle.script.specs.Words.{end_of, skip_of};
-
-use crate::Past;
+ghost use Rattle.std.specs.Prelude.{◌≡◌, ◌+◌, ◌≤◌, length, IfSome};
+ghost use Rattle.script.specs.Words.{end_of, end_behind, skip_of};
 
 // The place of the first `stop` from `at` on, or the text's end: with a space where a word ends, with a newline where a line does.
 pub fn end(text: &[u8], at: usize, stop: u8) -> usize
     ensures { result ≡ end_of stop at text.now }
 {
-    let mut i = at;
-    while i < text.len() {
-        if text[i] == stop {
-            return i;
-        }
-        i += 1;
-    }
-    i
+    let Some(rest) = text.get(at..) else {
+        return at;
+    };
+    at + rest.iter().position(|b| *b == stop).unwrap_or(rest.len())
 }
 
-// Whether two texts are the same, byte for byte.
-pub fn is_same(a: &[u8], b: &[u8]) -> bool
-    ensures { result ≡ same a.now b.now }
+// The same within the text, where the place is known to lie in it.
+pub fn until(text: &[u8], from: usize, stop: u8) -> usize
+    requires { from ≤ length text.now }
+    ensures { (from ≤ result) × (result ≤ length text.now) }
 {
-    if a.len() != b.len() {
-        return false;
-    }
-    let mut i: usize = 0;
-    while i < a.len() {
-        if a[i] != b[i] {
-            return false;
-        }
-        i += 1;
-    }
-    true
+    end(text, from, stop)
 }
 
-// The place behind a space and this word; refused where something else stands there.
-pub fn skip(text: &[u8], at: usize, word: &[u8]) -> Past
+// Where the word behind the space at `at` ends.
+#[tactic(auto, using(crate::proofs::WordsEnds::behind_laws))]
+pub fn behind(text: &[u8], at: usize) -> Option<usize>
+    ensures place { result ≡ end_behind at text.now }
+    ensures within { IfSome result (λ to. (at + 1 ≤ to) × (to ≤ length text.now)) }
+{
+    if *text.get(at)? != b' ' {
+        return None;
+    }
+    Some(end(text, at + 1, b' '))
+}
+
+// The place behind a space and this word.
+#[tactic(auto, using(crate::proofs::WordsBehind::skip_none))]
+pub fn skip(text: &[u8], at: usize, word: &[u8]) -> Option<usize>
     ensures { result ≡ skip_of word.now at text.now }
 {
-    if text.len() <= at {
-        return Past::Refused;
-    }
-    if text[at] != b' ' {
-        return Past::Refused;
-    }
-    let from = at + 1;
-    let to = end(text, from, b' ');
-    if is_same(&text[from..to], word) {
-        Past::At(to)
+    let to = behind(text, at)?;
+    if &text[at + 1..to] == word {
+        Some(to)
     } else {
-        Past::Refused
+        None
     }
 }

@@ -1,9 +1,9 @@
--- `replay::changes::changes` is safe and ends. The loop's invariant: the place lies in the buffer.
+-- `replay::changes::changes` is safe and ends. The loop's invariant: the place lies in the image.
 use Rattle.std.proofs.Common.{◌-◌, ◌≤◌, length}
 use Rattle.replay.proofs.changes.changes.Given as goal
 
 abbrev pub invariant-loop-from : goal.invariant-loop-from
-invariant-loop-from g l = l.to ≤ length l.out
+invariant-loop-from g l = l.from ≤ length l.new
 
 abbrev pub decreases-loop-from : goal.decreases-loop-from
 decreases-loop-from g l = length l.new - l.from

@@ -1,12 +1,8 @@
--- `script::arguments::some_numbers` is safe and ends. The loop's invariant: no number so far is above its limit.
+-- `script::arguments::some_numbers` meets its contract. The loop's invariant: no number so far is above its limit.
 use mathlib.Core.Path.{◌≡◌}
-use Prim.Native.Nat.{◌-◌}
 use lib.ListN.{length}
-use Rattle.script.proofs.LimitsLaws.{Below}
+use Rattle.script.specs.Limits.{Within}
 use Rattle.script.proofs.arguments.some_numbers.Given as goal
 
 abbrev pub invariant-loop-i : goal.invariant-loop-i
-invariant-loop-i l = (length l.x ≡ 4) × Below l.x l.most
-
-abbrev pub decreases-loop-i : goal.decreases-loop-i
-decreases-loop-i l = l.count - l.i
+invariant-loop-i g l = (length l.numbers ≡ g.row.N) × Within l.numbers l.limit-items

@@ -1,5 +1,5 @@
 -- `script::hex::hex_bytes` meets its contract.
-use mathlib.Core.Path.{sym, subst, ◌∙◌}
+use mathlib.Core.Path.{◌≡◌, sym, subst}
 use mathlib.Core.List.{List}
 use Prim.Native.Nat.{ℕ}
 use native.Mathlib.Omega.{arith}
@@ -18,9 +18,7 @@ returns-then-out-to c =
     (put-none out s.to)
 
 pub loop-k-init : goal.loop-k-init
-loop-k-init c =
-    let s = c.args in
-    (omega arith, begun (fill-room s.text.now s.at s.to (length s.out.now) (omega arith)))
+loop-k-init c = let s = c.args in begun (fill-room s.text.now s.at s.to (length s.out.now) (omega arith))
 
 pub returns-in_default : goal.returns-in_default
 returns-in_default c =
@@ -29,11 +27,11 @@ returns-in_default c =
     let size = length s.out.now in
     let Left : List ℕ → Type 0 = λ rest. Begun s.out.now s.to (bytes_in s.at s.text.now s.to size) rest l.out l.k in
     ended (fill-room s.text.now s.at s.to size (omega arith))
-    (subst Left (fill_none s.text.now l.from l.k size (sym c.hex_byte.ensures ∙ c.in_default.is)) l.invariant.1)
+    (subst Left (fill_none s.text.now l.from l.k size (sym c.in_default.ensures)) l.invariant)
 
 pub overflow_add-from : goal.overflow_add-from
 overflow_add-from c =
-    omega (arith, byte_within c.loop-k.from c.args.text.now _ (sym c.hex_byte.ensures ∙ c.in-Is.is))
+    omega (arith, byte_within c.loop-k.from c.args.text.now _ (sym c.in-Some.ensures))
 
 pub loop-k-preserved : goal.loop-k-preserved
 loop-k-preserved c =
@@ -41,8 +39,8 @@ loop-k-preserved c =
     let l = c.loop-k in
     let size = length s.out.now in
     let Left : List ℕ → Type 0 = λ rest. Begun s.out.now s.to (bytes_in s.at s.text.now s.to size) rest l.out l.k in
-    let here = subst Left (fill_more s.text.now l.from l.k size _ (omega arith) (sym c.hex_byte.ensures ∙ c.in-Is.is)) l.invariant.1 in
-    (omega arith, next (fill-room s.text.now s.at s.to size (omega arith)) here (put_one l.out l.k _ (omega arith)))
+    let here = subst Left (fill_more s.text.now l.from l.k size _ (omega arith) (sym c.in-Some.ensures)) l.invariant in
+    next (fill-room s.text.now s.at s.to size (omega arith)) here (put_one l.out l.k _ (omega arith))
 
 pub returns : goal.returns
 returns c =
@@ -50,5 +48,8 @@ returns c =
     let l = c.loop-k in
     let size = length s.out.now in
     let Left : List ℕ → Type 0 = λ rest. Begun s.out.now s.to (bytes_in s.at s.text.now s.to size) rest l.out l.k in
+    let whole =
     ended (fill-room s.text.now s.at s.to size (omega arith))
-    (subst Left (fill-full s.text.now l.from l.k size (omega arith)) l.invariant.1)
+    (subst Left (fill-full s.text.now l.from l.k size (omega arith)) l.invariant) in
+    let end : l.k ≡ length l.out = omega arith in
+    subst (λ (r : ℕ). Puts s.out.now s.to (bytes_in s.at s.text.now s.to size) l.out r) end whole

@@ -1,5 +1,4 @@
 -- `script::hex::hex_bytes` meets its contract. The loop's invariant: all stands but the bytes from `from` on that there is room for.
-use Prim.Native.Nat.{◌-◌, ◌≤◌}
 use lib.ListN.{length}
 use Rattle.text.proofs.TextPutting.{Begun}
 use Rattle.script.specs.Hex.{bytes_in}
@@ -7,8 +6,4 @@ use Rattle.script.proofs.hex.hex_bytes.Given as goal
 
 abbrev pub invariant-loop-k : goal.invariant-loop-k
 invariant-loop-k l =
-    (l.k ≤ length l.initial.out)
-    × Begun l.initial.out l.to (bytes_in l.at l.text l.to (length l.initial.out)) (bytes_in l.from l.text l.k (length l.initial.out)) l.out l.k
-
-abbrev pub decreases-loop-k : goal.decreases-loop-k
-decreases-loop-k l = length l.initial.out - l.k
+    Begun l.initial.out l.to (bytes_in l.at l.text l.to (length l.initial.out)) (bytes_in l.from l.text l.k (length l.initial.out)) l.out l.k
