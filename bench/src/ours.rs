@@ -25,31 +25,48 @@ pub struct Log {
     table: [[u8; 12]; 32],
 }
 
+/// An Option of the library: one byte says which it is, and behind it stands the number.
+#[repr(u8)]
+#[derive(Clone, Copy)]
+#[allow(dead_code)] // the library reads them, and writes them
+enum Units {
+    Unlimited,
+    Left(u64),
+}
+
 #[repr(C)]
 #[derive(Clone, Copy)]
 struct Plan {
-    limited: bool,
-    units: u64,
+    units: Units,
     refuse_erase: bool,
     refuse_programs: u32,
 }
 
+/// A Result of the library: one byte says which it is, and behind it stands what it holds, a value or the
+/// refusal's place among the refusals.
+#[repr(u8)]
+#[allow(dead_code)] // the library writes them
+enum Answer<T> {
+    Done(T),
+    Refused(u8),
+}
+
 #[repr(C)]
 pub struct Opened {
-    answer: u8,
+    answer: Answer<()>,
     log: Log,
 }
 
 #[repr(C)]
 struct Done {
-    answer: u8,
-    value: u64,
+    answer: Answer<u64>,
     programmed: usize,
     erased: usize,
     plan: Plan,
     log: Log,
 }
 
+const _: () = assert!(size_of::<Answer<()>>() == 2 && size_of::<Answer<u64>>() == 16);
 const _: () = assert!(size_of::<Log>() == 416 && size_of::<Opened>() == 424 && size_of::<Done>() == 472);
 
 type Change = unsafe extern "C" fn(&mut Done, *mut u8, usize, &Log, &Plan, u8, u8);
@@ -68,11 +85,11 @@ const ZEROS: Log = Log {
 };
 
 /// Unlimited power, and nothing refused.
-const PLAN: Plan = Plan { limited: false, units: 0, refuse_erase: false, refuse_programs: 0 };
+const PLAN: Plan = Plan { units: Units::Unlimited, refuse_erase: false, refuse_programs: 0 };
 
 /// Where an opening is put.
 pub fn unopened() -> Opened {
-    Opened { answer: 0, log: ZEROS }
+    Opened { answer: Answer::Done(()), log: ZEROS }
 }
 
 pub fn open(image: &[u8], out: &mut Opened) {
@@ -92,8 +109,8 @@ impl<'a> Board<'a> {
     pub fn open(image: &'a mut [u8]) -> Self {
         let mut opened = unopened();
         open(image, &mut opened);
-        assert!(opened.answer == 0, "the image has no size of an image");
-        let done = |log| Box::new(Done { answer: 0, value: 0, programmed: 0, erased: 0, plan: PLAN, log });
+        assert!(matches!(opened.answer, Answer::Done(())), "the image has no size of an image");
+        let done = |log| Box::new(Done { answer: Answer::Done(0), programmed: 0, erased: 0, plan: PLAN, log });
         Board { image, last: done(opened.log), next: done(ZEROS) }
     }
 
@@ -103,8 +120,10 @@ impl<'a> Board<'a> {
         // SAFETY: `image` is lent whole and to this call alone; the rest is as in `open`.
         unsafe { call(&mut self.next, image, len, &self.last.log, &self.last.plan, credential, tries) }
         std::mem::swap(&mut self.last, &mut self.next);
-        assert!(self.last.answer == 0, "a call was refused");
-        self.last.value as u8
+        match self.last.answer {
+            Answer::Done(value) => value as u8,
+            Answer::Refused(_) => panic!("a call was refused"),
+        }
     }
 
     #[inline]
