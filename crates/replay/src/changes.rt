@@ -19,7 +19,7 @@ fn next_change(old: &[u8], new: &[u8], from: usize) -> usize
     ensures { (from ≤ result) × (result ≤ length new.now) }
 {
     let mut at = from;
-    // Whole blocks first, by a loop: byte by byte, or with `==` of slices, the comparison took twice the time.
+    // Whole blocks first, by a loop without a branch in each: with `==` of slices the comparison took twice the time.
     while BLOCK <= new.len() - at && is_alike(&old[at..at + BLOCK], &new[at..at + BLOCK]) {
         at += BLOCK;
     }
