@@ -43,6 +43,8 @@ pub fn encode(record: Raw, seq: u32) -> [u8; SLOT]
 }
 
 // The record in a slot, from the register that the sector's seq left; none where byte 0 is FF or the checksum differs.
+// Not inlined: among its loads LLVM tests whether a slot is erased in three times as many steps, and opening a young log took half as long again.
+#[inline(never)]
 pub fn decode_from(slot: &[u8], start: u32) -> Option<Raw>
     ensures { result ≡ decoded_with (crc_from start (take 12 slot.now)) slot.now }
 {

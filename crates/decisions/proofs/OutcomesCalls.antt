@@ -88,25 +88,25 @@ module _ (image : List ℕ) (log : Log) (plan : Plan) (known : Bool) (tag id : �
 
   -- ---- a decision on what was found: what the step that performs it asks, and what comes of it
   module _ (decision : Option Raw → Bool → Decision) where
-    ready : WholeLog log → ((held : Option Raw) (room : Bool) → Keyed tag id room (decision held room))
-        → (x : Result Entry Refusal) → entry_of n log known tag id ≡ x
+    pub ready : WholeLog log → (x : Result Entry Refusal) → ((e : Entry) → x ≡ Ok e → Keyed tag id e.room (decision e.held e.room))
+        → entry_of n log known tag id ≡ x
         → Ready (length image) n log (record { plan = plan; programmed = 0; erased = 0 }) (decided_by decision x)
-    ready whole keyed (Ok e) is =
+    ready whole (Ok e) keyed is =
         let own : ℕ × Decision = (e.at, decision e.held e.room) in
         record {
           room = λ _. in_room e is;
           placed = λ at d h.
               subst (λ (p : ℕ × Decision). writes_record p.1 ≡ true → Placed log p.0 (record_in p.1))
               (ap (λ (y : Result (ℕ × Decision) Refusal). result_unwrap_or y own) h)
-              (placed_in e is whole (decision e.held e.room) (keyed e.held e.room));
+              (placed_in e is whole (decision e.held e.room) (keyed e refl));
         }
-    ready whole keyed (Err r) is =
+    ready whole (Err r) keyed is =
         record {
           room = λ h. absurd (false≢true h);
           placed = λ at d h. absurd (false≢true (ap (λ (y : Result (ℕ × Decision) Refusal). is_ok y) h));
         }
 
-    called : (x : Result Entry Refusal) → entry_of n log known tag id ≡ x
+    pub called : (x : Result Entry Refusal) → entry_of n log known tag id ≡ x
         → performed_on (decided_by decision x) n log (flash_of image plan) ≡ entered image log plan known (decided tag id decision)
     called (Ok e) is =
         sym
@@ -138,10 +138,13 @@ module _ {image : List ℕ} {log : Log} {plan : Plan} {known : Bool} {tag id : �
   is-decided =
       s.deciding ∙ ap (decided_by decision) (s.entering ∙ ap₂ (λ (n : ℕ) (k : Bool). entry_of n log k tag id) s.counted s.surely)
 
-  pub call-ready : WholeLog log → ((held : Option Raw) (room : Bool) → Keyed tag id room (decision held room)) → Ready (length image) m log used d
+  -- asked of what was found alone, and of nothing where the call was turned away
+  pub call-ready : WholeLog log
+      → ((e : Entry) → entry_of (sectors_in (length image)) log known tag id ≡ Ok e → Keyed tag id e.room (decision e.held e.room))
+      → Ready (length image) m log used d
   call-ready whole keyed =
       rw (s.counted, s.fresh, is-decided)
-      (ready image log plan known tag id decision whole keyed (entry_of (sectors_in (length image)) log known tag id) refl)
+      (ready image log plan known tag id decision whole (entry_of (sectors_in (length image)) log known tag id) keyed refl)
 
   pub call_meets : (r : Done) (left : List ℕ) → ((cut : Bool) → ShowsDone (performed_on d m log (flash_with image used cut)) r left)
       → ShowsDone (entered image log plan known (decided tag id decision)) r left

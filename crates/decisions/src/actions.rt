@@ -65,15 +65,16 @@ pub fn perform(
         Err(refusal) => return outcomes::answered(Err(refusal), log, used),
         Ok(x) => x,
     };
-    match log.state {
-        State::Unformatted => outcomes::answered(Err(Refusal::NotFormatted), log, used),
-        State::Failed => outcomes::answered(Err(Refusal::ReadError), log, used),
-        State::Active { sector, seq, head } => match decision {
-            Decision::Refuse(refusal) => outcomes::answered(Err(refusal), log, used),
-            Decision::Give(value) => outcomes::answered(Ok(value), log, used),
-            Decision::Write { rec, value } => write_record(
-                image, log, used, sectors, sector, seq, head, at, rec, value,
-            ),
-        },
-    }
+    // Left early, so that what is handed back is put together in its place.
+    let (sector, seq, head) = match log.state {
+        State::Unformatted => return outcomes::answered(Err(Refusal::NotFormatted), log, used),
+        State::Failed => return outcomes::answered(Err(Refusal::ReadError), log, used),
+        State::Active { sector, seq, head } => (sector, seq, head),
+    };
+    let (rec, value) = match decision {
+        Decision::Refuse(refusal) => return outcomes::answered(Err(refusal), log, used),
+        Decision::Give(value) => return outcomes::answered(Ok(value), log, used),
+        Decision::Write { rec, value } => (rec, value),
+    };
+    write_record(image, log, used, sectors, sector, seq, head, at, rec, value)
 }

@@ -48,21 +48,23 @@ pub fn answered(answer: Result<u64, Refusal>, log: Log, used: Used) -> Done
 pub fn finish(w: Wrote, value: u64, log: Log, table: [Raw; LIMIT], count: usize) -> Done
     ensures { result ≡ finished_of w value log table count }
 {
-    let left = Log {
-        state: w.state,
-        next_seq: w.next_seq,
-        ..log
-    };
     match w.answer {
-        Ok(()) => answered(
-            Ok(value),
-            Log {
+        Ok(()) => {
+            let new = Log {
+                state: w.state,
+                next_seq: w.next_seq,
                 count,
                 table,
-                ..left
-            },
-            w.used,
-        ),
-        Err(refusal) => answered(Err(refusal), left, w.used),
+            };
+            answered(Ok(value), new, w.used)
+        }
+        Err(refusal) => {
+            let old = Log {
+                state: w.state,
+                next_seq: w.next_seq,
+                ..log
+            };
+            answered(Err(refusal), old, w.used)
+        }
     }
 }

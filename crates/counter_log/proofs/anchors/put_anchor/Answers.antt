@@ -96,7 +96,7 @@ not-opening c =
 pub perform-requires : goal.perform-requires
 perform-requires c =
     let a = c.args in
-    call-ready (steps (goal.at.perform-requires c).After-map-decided) (whole-log a.log c.well_formed.1.0) (λ held room. anchor-keyed held room a.new)
+    call-ready (steps (goal.at.perform-requires c).After-map-decided) (whole-log a.log c.well_formed.1.0) (λ e _. anchor-keyed e.held e.room a.new)
 
 pub returns : goal.returns
 returns c =

@@ -29,7 +29,7 @@ steps c =
 pub perform-requires : goal.perform-requires
 perform-requires c =
     let a = c.args in
-    call-ready (steps (goal.at.perform-requires c).After-unused) (whole-log a.log c.well_formed.1.0) (λ held room. value-keyed held room a.id a.new)
+    call-ready (steps (goal.at.perform-requires c).After-unused) (whole-log a.log c.well_formed.1.0) (λ e _. value-keyed e.held e.room a.id a.new)
 
 pub returns : goal.returns
 unfolding put_value_of

@@ -58,8 +58,8 @@ write_record-requires c =
       subst (λ (r : Raw). Placed c.args.log x.0 r) (ap record_in d.is) placed,
     )
 
-pub returns-in-Write : goal.returns-in-Write
-returns-in-Write c =
+pub returns : goal.returns
+returns c =
     λ cut.
     let a = c.args in
     let x = c.in-Ok.x in

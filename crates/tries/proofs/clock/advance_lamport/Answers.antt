@@ -29,7 +29,7 @@ steps c =
 pub perform-requires : goal.perform-requires
 perform-requires c =
     let a = c.args in
-    call-ready (steps (goal.at.perform-requires c).After-unused) (whole-log a.log c.well_formed.1.0) (λ held room. advance_keyed (seen_of held a.seen) room)
+    call-ready (steps (goal.at.perform-requires c).After-unused) (whole-log a.log c.well_formed.1.0) (λ e _. advance_keyed (seen_of e.held a.seen) e.room)
 
 pub returns : goal.returns
 unfolding advance_of

@@ -28,7 +28,7 @@ steps c =
 pub perform-requires : goal.perform-requires
 perform-requires c =
     let a = c.args in
-    call-ready (steps (goal.at.perform-requires c).After-unused) (whole-log a.log c.well_formed.1.0) (λ held room. set-keyed held room a.credential a.tries)
+    call-ready (steps (goal.at.perform-requires c).After-unused) (whole-log a.log c.well_formed.1.0) (λ e _. set-keyed e.held e.room a.credential a.tries)
 
 pub returns : goal.returns
 unfolding set_of

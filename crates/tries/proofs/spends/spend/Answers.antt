@@ -28,7 +28,7 @@ steps c =
 pub perform-requires : goal.perform-requires
 perform-requires c =
     let a = c.args in
-    call-ready (steps (goal.at.perform-requires c).After-unused) (whole-log a.log c.well_formed.1.0) (λ held room. spend-keyed (start_of held a.current) room a.credential)
+    call-ready (steps (goal.at.perform-requires c).After-unused) (whole-log a.log c.well_formed.1.0) (λ e _. spend-keyed (start_of e.held a.current) e.room a.credential)
 
 pub returns : goal.returns
 unfolding spend_of
