@@ -1,6 +1,6 @@
 -- What an answer says in the paper's terms: its number, and the value asked for. `result_says` and `option_says` give this for every case
 -- of what is handed back.
-use Rattle.std.specs.Prelude.{ℕ, Option, Some, None, Result, Ok, Err, option_map}
+use Rattle.std.specs.Prelude.{Bool, true, false, ℕ, Option, Some, None, Result, Ok, Err, option_map}
 use Rattle.basics.specs.declared.Refusal.{Refusal}
 use Rattle.basics.specs.Answers.{refusal_number}
 
@@ -32,3 +32,17 @@ result_says (Err r) = says_refused (refusal_number r)
 abbrev pub option_says : {A : Type 0} → Result (Option A) Refusal → Says A
 option_says (Ok o) = record { number = 0; value = o }
 option_says (Err r) = says_refused (refusal_number r)
+
+-- the number that a call tells where there is always one: beside a refusal it is 0
+abbrev pub value_told : Result ℕ Refusal → ℕ
+value_told (Ok x) = x
+value_told (Err r) = 0
+
+-- a flag as such a number: 1 where it is true; 0 where it is false, and beside a refusal
+abbrev pub flag_number : Bool → ℕ
+flag_number true = 1
+flag_number false = 0
+
+abbrev pub flag_told : Result Bool Refusal → ℕ
+flag_told (Ok b) = flag_number b
+flag_told (Err r) = 0

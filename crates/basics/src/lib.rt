@@ -7,6 +7,7 @@ mod le_numbers; // the number that bytes spell
 
 ghost use Rattle.std.specs.Prelude.{◌≡◌};
 ghost use Rattle.basics.specs.Answers.{refusal_number, number_of};
+ghost use Rattle.basics.specs.Says.{value_told, flag_told};
 
 pub use le_bytes::{bytes2, bytes4, bytes8};
 pub use le_numbers::{joined, number2, number4};
@@ -54,5 +55,22 @@ pub fn number(answer: Answer) -> u8
     match answer {
         Ok(()) => 0,
         Err(refusal) => refusal.number(),
+    }
+}
+
+// The number that a call tells: 0 beside a refusal.
+pub fn value(answer: Result<u64, Refusal>) -> u64
+    ensures { result ≡ value_told answer }
+{
+    answer.unwrap_or(0)
+}
+
+// A flag that a call tells, as a number: 1 where it is true; 0 where it is false, and beside a refusal.
+pub fn flag(answer: Result<bool, Refusal>) -> u64
+    ensures { result ≡ flag_told answer }
+{
+    match answer {
+        Ok(is_so) => u64::from(is_so),
+        Err(_) => 0,
     }
 }
