@@ -1,6 +1,6 @@
 -- Demand 1: a call that fails a test is refused before anything else, and a write answers 0, 6 or 7 only. The calls that only read stand last.
 use Rattle.std.specs.Prelude.{Option, None, Result, Ok, Err}
-use Rattle.basics.specs.Answers.{all_done, refusal_number, number_of, is_done, Answer}
+use Rattle.basics.specs.Answers.{all_done, refusal_number, number_of, is_done, beside, Answer}
 use mathlib.Core.Path.{◌≡◌, refl, sym, ap, subst, ◌∙◌}
 use mathlib.Core.Bool.{Bool, true, false, false≢true}
 use mathlib.Core.List.{List, [], ◌∷◌}
@@ -10,10 +10,11 @@ use lib.ListN.{length}
 use borrow.Author.Tests.{eq-eqb}
 use Rattle.basics.specs.Choice.{pick}
 use Rattle.basics.specs.Lists.{same}
-use Rattle.basics.specs.Says.{says_refused, option_says}
+use Rattle.basics.specs.Says.{says_refused, option_says, value_told}
 use Rattle.basics.specs.declared.Refusal.{Refusal}
 use Rattle.basics.specs.declared.Refusal.TheVariants.{BadImage, BadLog, BadId, NotFormatted, WriteError}
 use Rattle.basics.proofs.ChoiceLaws.{by_test}
+use Rattle.basics.proofs.SaysLaws.{told-beside, told-chosen}
 use Rattle.codec.specs.declared.Raw.{Raw}
 use Rattle.codec.specs.Slots.{slot_of, header_slot}
 use Rattle.flash.specs.declared.Plan.{Plan}
@@ -48,7 +49,7 @@ use Rattle.tries.specs.Tries.{tries_left_by, load_by}
 use Rattle.demands.specs.Calls.{Call, outcome_of, NoEffect}
 use Rattle.demands.specs.Seen.{Seen}
 use Rattle.demands.specs.Demand1.{leaves_all, known_in, by_state, state_number, RefusedWith, Refuses, Asked, get, get_value, remaining, anchor}
-use Rattle.demands.specs.Demand1.{lamport, needs-migration, load, reply_of, says_with, told_says, says_of, turned_away, known_to, state_reply, RefusesAsked}
+use Rattle.demands.specs.Demand1.{lamport, needs-migration, load, reply_of, says_number, told_says, flag_says, says_of, turned_away, known_to, state_reply, RefusesAsked}
 use Rattle.demands.specs.Demand1.{Demand1Calls, Demand1Asked, Demand1Open}
 use Rattle.demands.proofs.CallsCourses.{Course, refusal, given, appends, formats, anchors, call_course}
 use Rattle.demands.proofs.CallsShapes.{Shape, by_kind}
@@ -139,6 +140,14 @@ module _ (image : List ℕ) (log : Log) (plan : Plan) where
       absurd (false≢true (sym (commit-answers n n n 0 new (Err WriteError) Unformatted log.next_seq f refl) ∙ e))
   course_unchanged L o (anchors may fits some k d s seq within z r value) e = absurd (false≢true (sym (append-answers n s seq 1 _ r _ _) ∙ e))
 
+  -- what is told of what is handed back
+  course_told : (L : Seen → Type 0) (o : Outcome) → Course image log plan L o → value_told (beside o.answer o.value) ≡ o.value
+  course_told L o (refusal a k) = told-beside a 0 ∙ ap (λ (b : Bool). pick {A = ℕ} b 0 0) k
+  course_told L o (given value) = refl
+  course_told L o (appends fits s seq head k r value room) = told-chosen (append_of n s seq head log.next_seq r _ f).answer value
+  course_told L o (formats fits some k new few) = told-chosen (commit_from n n n 0 new (Err WriteError) Unformatted log.next_seq f).answer 0
+  course_told L o (anchors may fits some k d s seq within z r value) = told-chosen (append_of n s seq 1 _ r _ _).answer value
+
   -- refused with a number, and by which answer
   abbrev Refused : ℕ → Outcome → Type 0
   Refused k o = (number_of o.answer ≡ k) × (o ≡ refused o.answer log f)
@@ -215,6 +224,7 @@ module _ (image : List ℕ) (log : Log) (plan : Plan) where
     bad_id = λ e k z. call-refuses c (Err BadId) (answer_bad_id n log (known_in c) e k z) refl;
     not-ready = λ e k. call-not-ready e k c;
     unchanged = course_unchanged (NoEffect c log) (outcome_of c image log plan) (call_course image log plan c);
+    told = course_told (NoEffect c log) (outcome_of c image log plan) (call_course image log plan c);
   }
 
 pub demand_1_calls : Demand1Calls
@@ -245,12 +255,12 @@ module _ (log : Log) where
       (turned-away (held_by four) Err log (is_credential credential) counter_tag credential r e)
   asked_refused anchor r e low = ap (λ (x : Held). option_says (read_in anchor_in x)) (turned-away (held_by (Ok None)) Err log true anchor_tag 0 r e)
   asked_refused lamport r e low =
-      ap (λ (x : Held). told_says 0 (lamport_by (read_in value_in x))) (turned-away (held_by four) Err log true value_tag lamport_id r e)
-  asked_refused needs-migration r e low = ap (told_says false) (turned-away migration_by Err log true anchor_tag 0 r e)
+      ap (λ (x : Held). told_says (lamport_by (read_in value_in x))) (turned-away (held_by four) Err log true value_tag lamport_id r e)
+  asked_refused needs-migration r e low = ap flag_says (turned-away migration_by Err log true anchor_tag 0 r e)
   asked_refused (load credential exists fresh) r e low =
-      ap (λ (x : Held). told_says 0 (load_by exists fresh (tries_left_by (read_in counter_in x))))
+      ap (λ (x : Held). told_says (load_by exists fresh (tries_left_by (read_in counter_in x))))
       (turned-away (held_by four) Err log (is_credential credential) counter_tag credential r e)
-      ∙ ap (λ (b : Bool). told_says 0 (pick b (Ok 0) (Err r))) low
+      ∙ ap (λ (b : Bool). told_says (pick b (Ok 0) (Err r))) low
 
   -- what is said of an Unformatted log, where that is a refusal, and of a Failed one
   state_says : {A : Type 0} {k : ℕ} (says : State → A) (away : ℕ → A) (z : State) → (by_state k 5 0 z ≡ 0 → ⊥) → says Unformatted ≡ away k
@@ -281,8 +291,8 @@ module _ (log : Log) where
       ∙ state_says (λ (z : State). option_says (read_in anchor_in (held_by (Ok None) z held))) says_refused log.state d refl refl
   asked_not-ready lamport e d =
       let held = held_of value_tag lamport_id (records_of log) in
-      ap (λ (x : Held). told_says 0 (lamport_by (read_in value_in x))) (taken_in (held_by four) Err log true value_tag lamport_id e)
-      ∙ state_says (λ (z : State). told_says 0 (lamport_by (read_in value_in (held_by four z held)))) (λ (k : ℕ). says_with k 0) log.state d refl refl
+      ap (λ (x : Held). told_says (lamport_by (read_in value_in x))) (taken_in (held_by four) Err log true value_tag lamport_id e)
+      ∙ state_says (λ (z : State). told_says (lamport_by (read_in value_in (held_by four z held)))) (λ (k : ℕ). says_number k 0) log.state d refl refl
   asked_not-ready needs-migration e d = absurd (d refl)
   asked_not-ready (load credential exists fresh) e d = absurd (d refl)
 

@@ -1,11 +1,10 @@
 -- Demand 1: every refusal by its number, their order, and that nothing is changed by one: of the calls that can write, of those that only
 -- read the log, of opening.
 use Rattle.std.specs.Prelude.{◌≡◌, Bool, true, false, ◌&&◌, ◌||◌, List, [], ℕ, leb, length, Option, Some, Result}
-use Rattle.std.specs.Result.{result_unwrap_or}
 use Rattle.basics.specs.Choice.{pick}
-use Rattle.basics.specs.Answers.{number_of, answer_in}
+use Rattle.basics.specs.Answers.{number_of, answer_in, beside}
 use Rattle.basics.specs.declared.Refusal.{Refusal}
-use Rattle.basics.specs.Says.{Says, says_refused, option_says}
+use Rattle.basics.specs.Says.{Says, says_refused, option_says, value_told, flag_told}
 use Rattle.ids.specs.declared.CounterState.{CounterState}
 use Rattle.ids.specs.declared.Anchor.{Anchor}
 use Rattle.ids.specs.Ids.{is_credential, is_value}
@@ -62,6 +61,11 @@ Unchanged c image log plan = outcome_of c image log plan ≡ refused (outcome_of
 abbrev pub RefusedWith : Call → List ℕ → Log → Plan → ℕ → Type 0
 RefusedWith c image log plan n = (number_of (outcome_of c image log plan).answer ≡ n) × Unchanged c image log plan
 
+-- what is told of the answer that a call hands back is the value that it comes to, so that beside a refusal it is 0
+abbrev pub Told : Call → List ℕ → Log → Plan → Type 0
+Told c image log plan =
+    value_told (beside (outcome_of c image log plan).answer (outcome_of c image log plan).value) ≡ (outcome_of c image log plan).value
+
 -- "Order: 1, 2, 3, then the Rust's order."
 pub record Refuses (c : Call) (image : List ℕ) (log : Log) (plan : Plan) : Type 0 where
   pub no_image : sectors_in (length image) ≡ 0 → RefusedWith c image log plan 1
@@ -72,6 +76,7 @@ pub record Refuses (c : Call) (image : List ℕ) (log : Log) (plan : Plan) : Typ
   pub not-ready : (sectors_in (length image) ≡ 0 → ⊥) → log_fits (sectors_in (length image)) log ≡ true → known_in c ≡ true
       → (state_number c log.state ≡ 0 → ⊥) → RefusedWith c image log plan (state_number c log.state)
   pub unchanged : leaves_all (number_of (outcome_of c image log plan).answer) ≡ true → Unchanged c image log plan
+  pub told : Told c image log plan
 
 -- ---- the calls that only read the log: they take no image and no plan and hand back no log, so there is nothing that a refusal could change
 pub data Asked : Type 0 where
@@ -104,24 +109,28 @@ Value (get_value id) = ℕ
 Value (remaining credential) = ℕ
 Value anchor = Anchor
 Value lamport = ℕ
-Value needs-migration = Bool
+Value needs-migration = ℕ
 Value (load credential exists fresh) = ℕ
 
--- what a reply says: the paper's number, and the value; where something is told, there is always a value, beside a refusal this one
-abbrev pub says_with : {A : Type 0} → ℕ → A → Says A
-says_with n x = record { number = n; value = Some x }
+-- what a reply says: the paper's number, and the value; where a number is told, there is always one: what `basics::value` gives of the reply,
+-- and `basics::flag` of a flag
+abbrev pub says_number : ℕ → ℕ → Says ℕ
+says_number n x = record { number = n; value = Some x }
 
-abbrev pub told_says : {A : Type 0} → A → Result A Refusal → Says A
-told_says x r = says_with (number_of (answer_in r)) (result_unwrap_or r x)
+abbrev pub told_says : Result ℕ Refusal → Says ℕ
+told_says r = says_number (number_of (answer_in r)) (value_told r)
+
+abbrev pub flag_says : Result Bool Refusal → Says ℕ
+flag_says r = says_number (number_of (answer_in r)) (flag_told r)
 
 abbrev pub says_of : (q : Asked) → Reply q → Says (Value q)
 says_of (get credential) = option_says
 says_of (get_value id) = option_says
 says_of (remaining credential) = option_says
 says_of anchor = option_says
-says_of lamport = told_says 0
-says_of needs-migration = told_says false
-says_of (load credential exists fresh) = told_says 0
+says_of lamport = told_says
+says_of needs-migration = flag_says
+says_of (load credential exists fresh) = told_says
 
 -- "Beside a refusal any value asked for is 0 or none."
 abbrev pub turned_away : (q : Asked) → ℕ → Says (Value q)
@@ -129,9 +138,9 @@ turned_away (get credential) n = says_refused n
 turned_away (get_value id) n = says_refused n
 turned_away (remaining credential) n = says_refused n
 turned_away anchor n = says_refused n
-turned_away lamport n = says_with n 0
-turned_away needs-migration n = says_with n false
-turned_away (load credential exists fresh) n = says_with n 0
+turned_away lamport n = says_number n 0
+turned_away needs-migration n = says_number n 0
+turned_away (load credential exists fresh) n = says_number n 0
 
 abbrev pub known_to : Asked → Bool
 known_to (get credential) = is_credential credential
