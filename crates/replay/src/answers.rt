@@ -14,31 +14,40 @@ fn value_text(out: &mut impl Write, value: Given) -> io::Result<()> {
     match value {
         Given::Dash => out.write_all(b"-|"),
         Given::Absent => out.write_all(b"none|"),
-        Given::One(x) => write!(out, "{x}|"),
+        Given::One(x) => output::field(out, x, b"|"),
         Given::Three {
             first,
             second,
             third,
-        } => write!(out, "{first} {second} {third}|"),
+        } => {
+            output::field(out, first, b" ")?;
+            output::field(out, second, b" ")?;
+            output::field(out, third, b"|")
+        }
     }
 }
 
 // Writes a plan, and a bar.
 fn plan_text(out: &mut impl Write, plan: Plan) -> io::Result<()> {
     match plan.units {
-        Some(units) => write!(out, "{units}")?,
-        None => out.write_all(b"inf")?,
+        Some(units) => output::field(out, units, b" ")?,
+        None => out.write_all(b"inf ")?,
     }
-    let refuse_erase = u8::from(plan.refuse_erase);
-    write!(out, " {refuse_erase} {}|", plan.refuse_programs)
+    output::field(out, u64::from(plan.refuse_erase), b" ")?;
+    output::field(out, u64::from(plan.refuse_programs), b"|")
 }
 
-// Writes a log's state.
+// Writes a log's state, and a space.
 fn state_text(out: &mut impl Write, state: State) -> io::Result<()> {
     match state {
-        State::Unformatted => out.write_all(b"unformatted"),
-        State::Failed => out.write_all(b"failed"),
-        State::Active { sector, seq, head } => write!(out, "active {sector} {seq} {head}"),
+        State::Unformatted => out.write_all(b"unformatted "),
+        State::Failed => out.write_all(b"failed "),
+        State::Active { sector, seq, head } => {
+            out.write_all(b"active ")?;
+            output::field(out, u64::from(sector), b" ")?;
+            output::field(out, u64::from(seq), b" ")?;
+            output::field(out, u64::from(head), b" ")
+        }
     }
 }
 
@@ -68,7 +77,9 @@ fn places(table: [Raw; LIMIT], count: usize) -> usize
 // Writes a log.
 fn log_text(out: &mut impl Write, log: Log) -> io::Result<()> {
     state_text(out, log.state)?;
-    write!(out, " next {} count {}", log.next_seq, log.count)?;
+    out.write_all(b"next ")?;
+    output::field(out, u64::from(log.next_seq), b" count ")?;
+    output::number(out, log.count as u64)?;
     let table = log.table;
     for r in &table[..places(table, log.count)] {
         record(out, *r)?;
@@ -86,9 +97,10 @@ pub fn answer(
     plan: Plan,
     log: Log,
 ) -> io::Result<()> {
-    write!(out, "{number} ")?;
+    output::field(out, u64::from(number), b" ")?;
     value_text(out, value)?;
-    write!(out, "{programmed} {erased}|")?;
+    output::field(out, programmed as u64, b" ")?;
+    output::field(out, erased as u64, b"|")?;
     plan_text(out, plan)?;
     log_text(out, log)?;
     out.write_all(b"|")

@@ -38,7 +38,7 @@ fn run(out: &mut impl Write, old: &[u8], new: &[u8], from: usize) -> io::Result<
         .zip(&new[next..])
         .position(|(a, b)| a == b);
     let end = same.map_or(new.len(), |n| next + n);
-    write!(out, "{from}:")?;
+    output::field(out, from as u64, b":")?;
     output::hex(out, &new[from..end])?;
     Ok(end)
 }

@@ -2,7 +2,8 @@
 // The format: docs/REPLAY.md.
 #![tactic(auto)]
 
-mod output; // bytes in hex
+mod input; // the script's lines, as they are read
+mod output; // what is written, by way of a buffer; numbers, and bytes in hex
 mod answers; // the fields of an answer
 mod changes; // what a call changed of the image
 mod queries; // the calls that only read
@@ -14,18 +15,16 @@ ghost use Rattle.std.specs.Prelude.{◌≤◌, length};
 ghost use Rattle.flash.specs.Image.{largest};
 ghost use Rattle.replay.specs.Limits.{Sound};
 
+use crate::input::{Input, LINE};
+use crate::output::Output;
 use crate::sessions::Session;
 use flash::LARGEST;
 use std::io;
-use std::io::{BufRead, BufReader, BufWriter, Read, Write};
+use std::io::{Read, Write};
 
-// The most characters of a line.
-const LINE: usize = 16384;
-
-// Plays the next line; answers whether there may be another. What follows the last newline is no line, unless it is too long.
+// Plays the next line; answers whether there may be another.
 fn turn<R: Read + Drop>(
-    input: &mut BufReader<R>,
-    line: &mut Vec<u8>,
+    input: &mut Input<R>,
     number: u64,
     out: &mut impl Write,
     image: &mut [u8],
@@ -37,33 +36,21 @@ fn turn<R: Read + Drop>(
     requires sound { Sound session.old }
     ensures { Sound session.new }
 {
-    // All lines that are here are answered before the input is waited for.
-    if !input.buffer().contains(&b'\n') {
-        out.flush()?;
-    }
-    line.clear();
-    input
-        .by_ref()
-        .take(LINE as u64 + 1)
-        .read_until(b'\n', line)?;
-    let is_read = match line.strip_suffix(b"\n") {
-        Some(text) => {
-            let text = text.strip_suffix(b" ").unwrap_or(text);
-            sessions::play(out, text, image, saved, before, session)?
-        }
-        None if line.len() <= LINE => return Ok(false),
-        None => false,
+    let Some(line) = input.next_line(out)? else {
+        return Ok(false);
     };
+    let text = line.strip_suffix(b" ").unwrap_or(line);
+    let is_read = line.len() <= LINE && sessions::play(out, text, image, saved, before, session)?;
     if !is_read {
-        writeln!(out, "bad line {number}")?;
+        out.write_all(b"bad line ")?;
+        output::field(out, number, b"\n")?;
     }
     Ok(is_read)
 }
 
 fn main(rt: HostRuntime) -> io::Result<()> {
-    let mut input = BufReader::with_capacity(rt.alloc(), LARGEST, rt.stdin())?;
-    let mut out = BufWriter::with_capacity(rt.alloc(), LARGEST, rt.stdout())?;
-    let mut line = Vec::with_capacity(rt.alloc(), LINE + 1)?;
+    let mut input = Input::new(rt.stdin());
+    let mut out = Output::new(&rt);
     let mut image = [0u8; LARGEST];
     let mut saved = [0u8; LARGEST];
     let mut before = [0u8; LARGEST];
@@ -71,7 +58,6 @@ fn main(rt: HostRuntime) -> io::Result<()> {
     for number in 1..u64::MAX {
         if !turn(
             &mut input,
-            &mut line,
             number,
             &mut out,
             &mut image,
