@@ -6,7 +6,7 @@ ghost use Rattle.script.specs.Limits.{NumberWithin};
 
 use crate::words;
 
-// The number that a whole word is, if it is at most `most`.
+// The number that a whole word is, if it is at most `most`. It is tested before it grows, so that it never wraps.
 #[tactic(auto, using(crate::proofs::DecimalsAmounts::amount_laws))]
 pub fn amount(word: &[u8], most: u64) -> Option<u64>
     ensures value { result ≡ amount_of most word.now }
@@ -21,10 +21,10 @@ pub fn amount(word: &[u8], most: u64) -> Option<u64>
             return None;
         }
         let digit = u64::from(*c - b'0');
-        value = value.checked_mul(10)?.checked_add(digit)?;
-        if most < value {
+        if most / 10 < value || most - 10 * value < digit {
             return None;
         }
+        value = 10 * value + digit;
     }
     Some(value)
 }

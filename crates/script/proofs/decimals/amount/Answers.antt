@@ -1,6 +1,6 @@
 -- `script::decimals::amount` meets its contract: one digit more.
 use mathlib.Core.Path.{◌≡◌, sym, ◌∙◌}
-use Prim.Native.Nat.{◌+◌, ◌-◌, ◌*◌}
+use Prim.Native.Nat.{◌-◌}
 use native.Mathlib.Omega.{arith}
 use lib.ListN.{get_or}
 use Rattle.script.proofs.DecimalsAmounts.{amount_further}
@@ -10,9 +10,6 @@ pub loop-c-preserved : goal.loop-c-preserved
 loop-c-preserved c =
     let s = c.args in
     let l = c.loop-c in
-    let digit = c.if-not-is_ascii_digit.ensures.value in
-    let tens = c.in_ok-checked_mul.ensures.1 in
-    let ones = c.from-digit.ensures in
-    let sum = c.in_ok-value.ensures.1 in
-    let is : c.in_ok-value.value ≡ 10 * l.value + (get_or s.word.now l.c-index 0 - 48) = omega arith in
-    (omega arith, rw is (sym (amount_further s.most s.word.now l.c-index l.value (omega arith) (sym digit)) ∙ l.invariant.1))
+    let is : c.from-digit.result ≡ get_or s.word.now l.c-index 0 - 48 = c.from-digit.ensures in
+    let digit = sym c.if-not-is_ascii_digit.ensures.value in
+    (omega arith, rw is (sym (amount_further s.most s.word.now l.c-index l.value (omega arith) digit) ∙ l.invariant.1))
