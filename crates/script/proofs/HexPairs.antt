@@ -1,18 +1,20 @@
 -- Laws of bytes in hex: what a digit is worth, and a run of bytes one by one.
 use mathlib.Core.Path.{◌≡◌, refl, ap, ap₂, ◌∙◌}
 use mathlib.Core.Bool.{Bool, true, false, ◌&&◌}
-use mathlib.Core.List.{List, [], ◌∷◌}
+use mathlib.Core.List.{List, [], ◌∷◌, append-nil}
 use Prim.Native.Nat.{ℕ, suc, ◌+◌, ◌-◌, ◌*◌, ◌≤◌, ◌<◌}
 use native.Mathlib.Nat.{add-zero}
 use native.Mathlib.Omega.{arith}
 use lib.Dec.{ltb, leb}
-use lib.ListN.{length, get_or, take, drop, length-take, get_or-eq_default}
+use lib.ListN.{length, get_or, take, drop, length-take, get_or-eq_default, drop_of_length-le}
 use lib.Seq.{get_or-drop, drop-drop, take-nil}
-use borrow.Author.Tests.{le-leb, lt-leb, leb-true, ltb-true, ltb-false}
+use borrow.Author.Tests.{le-leb, lt-leb, leb-true, ltb-true, ltb-false, eq-eqb, ne_eqb}
 use Rattle.std.specs.Prelude.{Option, Some, None}
+use Rattle.std.proofs.lemmas.List.{take_all}
 use Rattle.basics.specs.Choice.{pick}
 use Rattle.basics.proofs.ChoiceLaws.{second}
-use Rattle.script.specs.Hex.{hex_value, pair_of, byte_of, byte_at, run_of, bytes_of, bytes_in}
+use Rattle.text.specs.Text.{Puts}
+use Rattle.script.specs.Hex.{hex_value, pair_of, byte_of, byte_at, run_of, bytes_of, bytes_in, whole_of}
 
 -- ---- one digit
 module _ (c : ℕ) where
@@ -117,5 +119,45 @@ module _ (text : List ℕ) (i k size : ℕ) where
 
   pub fill-room : k ≤ size → k + length (bytes_in i text k size) ≤ size
   fill-room h = simp length-take (omega arith)
+
+-- ---- the bytes that a whole text is
+run_short : (o : Option ℕ) (more : List ℕ) (n : ℕ) → 2 * length more ≤ n → 2 * length (run_of o more) ≤ 2 + n
+run_short (Some b) more n h = omega arith
+run_short None more n h = omega arith
+
+bytes_short : (l : List ℕ) → 2 * length (bytes_of l) ≤ length l
+unfolding bytes_of
+bytes_short [] = omega arith
+bytes_short (a ∷ []) = omega arith
+bytes_short (a ∷ b ∷ rest) = omega (arith, run_short (byte_of a b) (bytes_of rest) (length rest) (bytes_short rest))
+
+-- what fills a buffer is what stands there
+fills : {before text after : List ℕ} {r : ℕ} → Puts before 0 text after r → length text ≡ length before → after ≡ text
+fills {before} {text} p same = p.left ∙ rw (drop_of_length-le before {i = length text} (omega arith)) (append-nil text)
+
+module _ (n : ℕ) (text : List ℕ) where
+  pub whole_size : (length text ≡ 2 * n → ⊥) → whole_of n text ≡ None
+  unfolding whole_of
+  whole_size e = rw (ne_eqb (length text) (2 * n) e)
+
+  module _ (before after : List ℕ) (r : ℕ) (size : length text ≡ 2 * n) (room : length before ≡ n)
+      (put : Puts before 0 (bytes_in 0 text 0 (length before)) after r) where
+    all_read : bytes_in 0 text 0 (length before) ≡ bytes_of text
+    all_read =
+        let all : length before - 0 ≡ length before = omega arith in
+        rw all (take_all (length before) (bytes_of text) (omega (arith, bytes_short text)))
+
+    pub whole_none : (r ≡ n → ⊥) → whole_of n text ≡ None
+    unfolding whole_of
+    whole_none e =
+        let short : length (bytes_of text) ≡ n → ⊥ = λ k. e (omega (arith, put.past, ap length all_read)) in
+        rw (eq-eqb (length text) (2 * n) size, ne_eqb (length (bytes_of text)) n short)
+
+    pub whole_some : r ≡ n → whole_of n text ≡ Some after
+    unfolding whole_of
+    whole_some e =
+        let many : length (bytes_of text) ≡ n = omega (arith, put.past, ap length all_read) in
+        let is : after ≡ bytes_of text = fills put (omega (arith, ap length all_read)) ∙ all_read in
+        rw (eq-eqb (length text) (2 * n) size, eq-eqb (length (bytes_of text)) n many, is)
 
 pub ruleset byte_laws = (no_first, no_second, a_pair, byte_outside, value_small)

@@ -1,5 +1,5 @@
 -- "Bytes are lower-case hex with no separator."
-use Rattle.std.specs.Prelude.{◌&&◌, List, [], ◌∷◌, ℕ, ◌+◌, ◌-◌, ◌*◌, leb, get_or, take, drop, Option, Some, None}
+use Rattle.std.specs.Prelude.{◌&&◌, List, [], ◌∷◌, ℕ, ◌+◌, ◌-◌, ◌*◌, eqb, leb, length, get_or, take, drop, Option, Some, None}
 use Rattle.basics.specs.Choice.{pick}
 
 -- the value of a digit
@@ -34,3 +34,7 @@ bytes_of (a ∷ b ∷ rest) = run_of (byte_of a b) (bytes_of rest)
 -- as many of those from place `at` on as a buffer of this size has room for from place `to` on
 abbrev pub bytes_in : ℕ → List ℕ → ℕ → ℕ → List ℕ
 bytes_in at text to size = take (size - to) (bytes_of (drop at text))
+
+-- the n bytes that a whole text is, two digits each
+unfoldable pub whole_of : ℕ → List ℕ → Option (List ℕ)
+whole_of n text = pick (eqb (length text) (2 * n) && eqb (length (bytes_of text)) n) (Some (bytes_of text)) None

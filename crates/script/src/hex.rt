@@ -2,7 +2,7 @@
 // A place is any number: what is not there is refused.
 ghost use Rattle.std.specs.Prelude.{◌≡◌, length};
 ghost use Rattle.text.specs.Text.{Puts};
-ghost use Rattle.script.specs.Hex.{hex_value, byte_at, bytes_in};
+ghost use Rattle.script.specs.Hex.{hex_value, byte_at, bytes_in, whole_of};
 
 // The value of a lower-case hex digit.
 #[tactic(auto, unfolding(crate::specs::Hex::hex_value))]
@@ -45,7 +45,9 @@ pub fn hex_bytes(text: &[u8], at: usize, out: &mut [u8], to: usize) -> usize
 }
 
 // The N bytes that a whole text is in hex.
-pub fn hex_array<const N: usize>(text: &[u8]) -> Option<[u8; N]> {
+pub fn hex_array<const N: usize>(text: &[u8]) -> Option<[u8; N]>
+    ensures { result ≡ whole_of N text.now }
+{
     let mut bytes = [0u8; N];
     if text.len() % 2 != 0 || text.len() / 2 != N || hex_bytes(text, 0, &mut bytes, 0) != N {
         return None;
