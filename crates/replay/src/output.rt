@@ -1,7 +1,9 @@
 // What is written goes to standard output by way of a buffer: where a piece doesn't fit, what stands in the buffer is written first.
 // Only a flush and such a piece write: what stands there when the buffer is let go is lost, as is what a failed write was given.
-ghost use Rattle.std.specs.Prelude.{◌≡◌, ◌+◌, ◌≤◌, length};
+ghost use Rattle.std.specs.Prelude.{◌≡◌, ◌+◌, ◌≤◌, ◌++◌, length, OnOk};
+ghost use Rattle.std.specs.Io.KnownBytes.{Appends};
 ghost use Rattle.flash.specs.Image.{largest};
+ghost use Rattle.text.specs.Text.{decimal};
 
 use flash::LARGEST;
 use std::io;
@@ -81,15 +83,19 @@ impl<P: Print> Write for Output<'_, P> {
     }
 }
 
-// Writes a number in decimal.
-pub fn number(out: &mut impl Write, x: u64) -> io::Result<()> {
+// Writes a number in decimal, as a line of a script would have it.
+pub fn number<W: Write>(out: &mut W, x: u64) -> io::Result<()>
+    ensures { OnOk result (Appends (W.contents out.old) (W.contents out.new) (decimal x)) }
+{
     let mut digits = [0u8; DIGITS];
     let end = text::put_decimal(&mut digits, 0, x);
     out.write_all(&digits[..end])
 }
 
 // Writes a number in decimal, and what stands behind it.
-pub fn field(out: &mut impl Write, x: u64, behind: &[u8]) -> io::Result<()> {
+pub fn field<W: Write>(out: &mut W, x: u64, behind: &[u8]) -> io::Result<()>
+    ensures { OnOk result (Appends (W.contents out.old) (W.contents out.new) (decimal x ++ behind.now)) }
+{
     number(out, x)?;
     out.write_all(behind)
 }
