@@ -133,6 +133,20 @@ monotonic_meant t d =
     cases false false known falls true p h = refl
     cases false false known falls false p h = refl
 
+grows_not : (m : Meaning) → (m ≡ meaning.Monotonic → ⊥) → grows m ≡ false
+grows_not (meaning.Credential i) h = refl
+grows_not meaning.Monotonic h = absurd (h refl)
+grows_not meaning.Free h = refl
+grows_not meaning.Anchor h = refl
+grows_not meaning.Unknown h = refl
+
+-- what means such a value, and what means anything else
+pub monotonic_where : (t d : ℕ) → meaning_of t d ≡ meaning.Monotonic → is_monotonic t d ≡ true
+monotonic_where t d e = sym (monotonic_meant t d) ∙ ap grows e
+
+pub monotonic_nowhere_else : (t d : ℕ) → (meaning_of t d ≡ meaning.Monotonic → ⊥) → is_monotonic t d ≡ false
+monotonic_nowhere_else t d h = sym (monotonic_meant t d) ∙ grows_not (meaning_of t d) h
+
 pub monotonic_value : (t d : ℕ) → is_monotonic t d ≡ true → (t ≡ value_tag) × (is_value d ≡ true)
 unfolding is_monotonic
 monotonic_value t d e =

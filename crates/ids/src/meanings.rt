@@ -55,6 +55,7 @@ pub fn meaning_of(tag: u8, id: u8) -> Meaning
 }
 
 // Whether records of this tag and id hold a value that may not fall. An unknown id is none: of such records the last one counts.
+#[tactic(auto, using(crate::proofs::IdsLaws::monotonic_where, crate::proofs::IdsLaws::monotonic_nowhere_else))]
 pub fn is_monotonic(tag: u8, id: u8) -> bool
     ensures { result ≡ is_monotonic tag id }
 {
