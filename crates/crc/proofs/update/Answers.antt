@@ -7,4 +7,4 @@ pub loop-b-preserved : goal.loop-b-preserved
 loop-b-preserved c = rw c.fed-s.ensures (sym (feed-step _ _ c.loop-b.b-index (omega arith)) ∙ c.loop-b.invariant)
 
 pub returns : goal.returns
-returns c = rw (feed_end _ c.args.bytes.now c.loop-b.b-index (omega arith)) at c.loop-b.invariant
+returns c = grind (arith, feed_end)

@@ -4,4 +4,4 @@ use Rattle.crc.specs.Register.{feed}
 use Rattle.crc.proofs.update.Given as goal
 
 abbrev pub invariant-loop-b : goal.invariant-loop-b
-invariant-loop-b l = feed l.s (drop l.b-index l.bytes) ≡ feed l.state l.bytes
+invariant-loop-b l = feed l.s (drop l.b-index l.bytes) ≡ feed l.fn.state l.fn.bytes
