@@ -6,7 +6,7 @@ mod le_bytes; // a number as two, four or eight bytes
 mod le_numbers; // the number that bytes spell
 
 ghost use Rattle.std.specs.Prelude.{◌≡◌};
-ghost use Rattle.basics.specs.Answers.{refusal_number, number_of};
+ghost use Rattle.basics.specs.Answers.{refusal_number, number_of, is_done};
 ghost use Rattle.basics.specs.Says.{value_told, flag_told};
 
 pub use le_bytes::{bytes2, bytes4, bytes8};
@@ -56,6 +56,13 @@ pub fn number(answer: Answer) -> u8
         Ok(()) => 0,
         Err(refusal) => refusal.number(),
     }
+}
+
+// Whether an answer is 0: the call was done.
+pub fn is_done(answer: Answer) -> bool
+    ensures { result ≡ is_done answer }
+{
+    number(answer) == 0
 }
 
 // The number that a call tells: 0 beside a refusal.
