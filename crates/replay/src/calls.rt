@@ -151,7 +151,7 @@ fn request_of(line: &[u8], e: usize) -> Option<Request>
 // What a request hands back beside its number: 0 beside a refusal, where it tells a value.
 fn value_of(request: Request, answer: Result<u64, Refusal>) -> Given {
     match request.kind {
-        Kind::Spend { .. } | Kind::AdvanceLamport { .. } => Given::One(answer.unwrap_or(0)),
+        Kind::Spend { .. } | Kind::AdvanceLamport { .. } => Given::One(basics::value(answer)),
         _ => Given::Dash,
     }
 }
@@ -174,8 +174,8 @@ fn attempt(line: &[u8], e: usize, image: &mut [u8], log: Log, plan: Plan) -> Opt
     Some(Work {
         value: Given::Three {
             first: u64::from(basics::number(numbered.answer.map(|_| ()))),
-            second: numbered.answer.unwrap_or(0),
-            third: spent.answer.unwrap_or(0),
+            second: basics::value(numbered.answer),
+            third: basics::value(spent.answer),
         },
         done: spent,
     })

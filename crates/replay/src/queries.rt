@@ -17,7 +17,15 @@ fn held(told: Result<Given, Refusal>) -> Reply {
 fn number(told: Result<u64, Refusal>) -> Reply {
     Reply {
         answer: told.map(|_| ()),
-        value: Given::One(told.unwrap_or(0)),
+        value: Given::One(basics::value(told)),
+    }
+}
+
+// The reply of a call that tells whether something is so: 1 or 0.
+fn flag(told: Result<bool, Refusal>) -> Reply {
+    Reply {
+        answer: told.map(|_| ()),
+        value: Given::One(basics::flag(told)),
     }
 }
 
@@ -62,7 +70,7 @@ fn read_none(line: &[u8], log: Log) -> Option<Reply> {
     match line {
         b"anchor" => Some(held(anchor(log))),
         b"lamport" => Some(number(reads::lamport(log))),
-        b"needs_migration" => Some(number(reads::needs_migration(log).map(u64::from))),
+        b"needs_migration" => Some(flag(reads::needs_migration(log))),
         _ => None,
     }
 }

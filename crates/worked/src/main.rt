@@ -129,7 +129,7 @@ fn contents(image: &[u8]) -> u32 {
 fn call_line(rt: &impl Print, label: &str, image: &[u8], d: Done) -> io::Result<Log> {
     let number = basics::number(d.answer.map(|_| ()));
     print!(rt; "{label}{number}")?;
-    number_word(rt, d.answer.unwrap_or(0))?;
+    number_word(rt, basics::value(d.answer))?;
     number_word(rt, d.programmed as u64)?;
     number_word(rt, d.erased as u64)?;
     log_words(rt, d.log)?;
