@@ -2,11 +2,15 @@
 // Here stands `enter`, which makes the tests, and what a call finds that passes them.
 #![tactic(auto)]
 
-mod held; // get, value, anchor: what is held of one key
+mod counters; // get
+mod values; // value
+mod anchors; // anchor
 mod status; // lamport, needs_migration
 
-pub use held::{anchor, get, value};
+pub use anchors::anchor;
+pub use counters::get;
 pub use status::{lamport, needs_migration};
+pub use values::value;
 
 // What stands here uses:
 ghost use Rattle.std.specs.Prelude.{◌≡◌};

@@ -2,7 +2,7 @@
 ghost use Rattle.std.specs.Prelude.{◌≡◌};
 ghost use Rattle.reads.specs.Reads.{lamport_of, needs_migration_of};
 
-use crate::held;
+use crate::values;
 use basics::Refusal;
 use flash::SECTORS_MOST;
 use records::{Log, State};
@@ -11,10 +11,11 @@ use records::{Log, State};
 pub fn lamport(log: Log) -> Result<u64, Refusal>
     ensures { result ≡ lamport_of log }
 {
-    Ok(held::value(log, ids::LAMPORT)?.unwrap_or(0))
+    Ok(values::value(log, ids::LAMPORT)?.unwrap_or(0))
 }
 
 // Whether the log is Unformatted.
+#[tactic(auto, using(crate::proofs::ReadsMigration::migration_refused, crate::proofs::ReadsMigration::migration_where, crate::proofs::ReadsMigration::migration_nowhere_else))]
 pub fn needs_migration(log: Log) -> Result<bool, Refusal>
     ensures { result ≡ needs_migration_of log }
 {

@@ -1,0 +1,54 @@
+-- `reads::counters::get` meets its contract.
+use mathlib.Core.Path.{◌≡◌, sym, ap, ◌∙◌}
+use mathlib.Core.Bool.{Bool}
+use Rattle.std.proofs.Common.{rules}
+use Rattle.std.specs.Prelude.{Result, Err}
+use Rattle.std.proofs.lemmas.Result.{err_from_is_err_and}
+use Rattle.basics.proofs.SaysLaws.{and_says}
+use Rattle.basics.specs.Says.{option_says}
+use Rattle.basics.specs.declared.Refusal.{Refusal}
+use Rattle.basics.specs.declared.Refusal.TheVariants.{NotFormatted}
+use Rattle.ids.specs.Ids.{is_credential, counter_tag}
+use Rattle.bodies.specs.Bodies.{counter_in}
+use Rattle.records.specs.declared.State.{State}
+use Rattle.reads.specs.declared.Entry.{Entry}
+use Rattle.reads.specs.Entering.{entry_of}
+use Rattle.reads.specs.Reads.{held_by, read_in, get_of}
+use Rattle.reads.proofs.ReadsHeld.{held-refused, held-in}
+use Rattle.reads.proofs.ReadsSays.{get-says}
+use Rattle.reads.proofs.counters.get.Goals as goal
+use Rattle.reads.proofs.counters.get.Goals.{After-enter, In_ok-e}
+
+entry_is : (c : After-enter) (x : Result Entry Refusal) → c.enter.result ≡ x → entry_of 16 c.args.log (is_credential c.args.credential) counter_tag c.args.credential ≡ x
+entry_is c x e =
+    let a = c.args in
+    sym (c.enter.ensures ∙ ap (λ (known : Bool). entry_of 16 a.log known counter_tag a.credential) c.is_credential-known.ensures) ∙ e
+
+-- what a log in this state says, where the tests let the call in
+let_in : (c : In_ok-e) (z : State) → c.args.log.state ≡ z → read_in counter_in (held_by (Err NotFormatted) z c.in_ok-e.e.held) ≡ get_of c.args.log c.args.credential
+unfolding get_of
+let_in c z e =
+    let a = c.args in
+    held-in counter_in (Err NotFormatted) a.log (is_credential a.credential) counter_tag a.credential c.in_ok-e.e z
+    (entry_is (goal.at.In_ok-e c).After-enter _ c.in_ok-e.was) e
+
+pub returns-in_err-e : goal.returns-in_err-e
+unfolding get_of
+returns-in_err-e c =
+    let a = c.args in
+    let p = err_from_is_err_and c.from_residual.result c.from_residual.ensures.1 in
+    and_says option_says (get-says a.log a.credential)
+    (rw (p.1, p.2)
+    (held-refused counter_in (Err NotFormatted) a.log (is_credential a.credential) counter_tag a.credential _
+    (entry_is (goal.at.returns-in_err-e c).After-enter _ c.in_err-e.was)))
+
+pub returns-in-Unformatted : goal.returns-in-Unformatted
+returns-in-Unformatted c =
+    and_says option_says (get-says c.args.log c.args.credential) (let_in (goal.at.returns-in-Unformatted c).In_ok-e _ c.in-Unformatted.is)
+
+pub returns-in-Failed : goal.returns-in-Failed
+returns-in-Failed c = and_says option_says (get-says c.args.log c.args.credential) (let_in (goal.at.returns-in-Failed c).In_ok-e _ c.in-Failed.is)
+
+pub returns-in-Active : goal.returns-in-Active
+returns-in-Active c =
+    and_says option_says (get-says c.args.log c.args.credential) (search rules ∙ let_in (goal.at.returns-in-Active c).In_ok-e _ c.in-Active.is)
