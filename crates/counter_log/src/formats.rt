@@ -24,8 +24,7 @@ pub fn format(image: &mut [u8], log: Log, plan: Plan, seeds: [Seed; SEEDS], coun
             let table = t.table;
             decisions::format_with(image, log, used, n, table, t.count)
         }
-        State::Failed | State::Active { .. } => {
-            decisions::answered(Err(Refusal::WriteError), log, used)
-        }
+        State::Failed => decisions::answered(Err(Refusal::WriteError), log, used),
+        State::Active { .. } => decisions::answered(Err(Refusal::WriteError), log, used),
     }
 }

@@ -2,7 +2,6 @@
 use mathlib.Core.Path.{◌≡◌, refl, sym, ap, ap₂, subst, ◌∙◌}
 use mathlib.Core.Bool.{Bool, true, false}
 use mathlib.Core.List.{List}
-use mathlib.Core.Logic.{⊎_elim}
 use Prim.Native.Nat.{ℕ, ◌<◌}
 use native.Mathlib.Omega.{arith}
 use lib.ListN.{length, take}
@@ -14,7 +13,6 @@ use Rattle.codec.specs.declared.Raw.{Raw}
 use Rattle.flash.specs.Image.{sectors_in}
 use Rattle.flash.specs.Run.{Flash}
 use Rattle.records.specs.declared.State.{State}
-use Rattle.records.specs.declared.State.TheVariants.{Failed, Active}
 use Rattle.records.specs.declared.Log.{Log}
 use Rattle.records.proofs.LogsPlaces.{places-take}
 use Rattle.decisions.specs.declared.seeds.Seeded.{Seeded}
@@ -109,7 +107,11 @@ returns-in-Unformatted c =
 pub returns-in-Failed : goal.returns-in-Failed
 returns-in-Failed c =
     let a = c.args in
-    let in_ = (goal.at.returns-in-Failed c).In_default in
-    let answered = c.answered-in-Failed.ensures ∙ ap (answered_of (Err WriteError) a.log) c.unused-used.ensures in
-    ⊎_elim (λ e. rw (state_says in_ Failed e) (record { answered = answered; left = refl }))
-    (λ w. rw (state_says in_ (Active w.0 w.1 w.2) w.3) (record { answered = answered; left = refl })) c.in-Failed.is
+    rw (state_says (goal.at.returns-in-Failed c).In_default _ c.in-Failed.is)
+    (record { answered = c.answered-in-Failed.ensures ∙ ap (answered_of (Err WriteError) a.log) c.unused-used.ensures; left = refl })
+
+pub returns-in-Active : goal.returns-in-Active
+returns-in-Active c =
+    let a = c.args in
+    rw (state_says (goal.at.returns-in-Active c).In_default _ c.in-Active.is)
+    (record { answered = c.answered-in-Active.ensures ∙ ap (answered_of (Err WriteError) a.log) c.unused-used.ensures; left = refl })
