@@ -1,4 +1,5 @@
-// The script as it is read, line by line, by way of a buffer. What was read of a line without its end waits for the next read.
+// The script's lines, as they are read: by way of a buffer, out of which each line is handed as a slice.
+// What was read of a line without its end waits for the next read.
 ghost use Rattle.std.specs.Prelude.{◌≡◌, ◌-◌, ◌<◌, ◌≤◌, length, take, slice_range, IfOk, IfSome, IsTrue};
 ghost use Rattle.flash.specs.Image.{largest};
 
@@ -57,7 +58,7 @@ impl<R: Read + Drop> Input<R> {
     }
 
     // Where the next line ends: at its newline, or behind all that waits where that is too long. None at the end of the input.
-    // The lines before are answered before the input is waited for.
+    // What is written so far goes out before the input is waited for.
     fn line_end(&mut self, out: &mut impl Write) -> io::Result<Option<usize>>
         ensures { IfOk result (λ found. IfSome found (λ end. (self.new.from ≤ end) × (end ≤ self.new.to))) }
     {
@@ -75,7 +76,8 @@ impl<R: Read + Drop> Input<R> {
         Ok(Some(end))
     }
 
-    // The next line without its newline, or what waits of one that is too long. None at the end of the input: what follows the last newline is no line.
+    // The next line without its newline, or what waits of one that is too long.
+    // None at the end of the input: what follows the last newline is no line.
     pub fn next_line(&mut self, out: &mut impl Write) -> io::Result<Option<&[u8]>> {
         let Some(end) = self.line_end(out)? else {
             return Ok(None);

@@ -1,9 +1,9 @@
-// What is written goes to standard output by way of a buffer: where a piece doesn't fit, what stands in the buffer is written first.
-// Only a flush and such a piece write: what stands there when the buffer is let go is lost, as is what a failed write was given.
+// What is written, by way of a buffer: where a piece doesn't fit, what stands in the buffer goes to standard output first.
+// Only a flush and such a piece write. What stands there when the buffer is let go is lost: a refused write is offered once.
 ghost use Rattle.std.specs.Prelude.{◌≡◌, ◌+◌, ◌≤◌, ◌++◌, length, OnOk};
 ghost use Rattle.std.specs.Io.KnownBytes.{Appends};
 ghost use Rattle.flash.specs.Image.{largest};
-ghost use Rattle.text.specs.Text.{decimal};
+ghost use Rattle.text.specs.Text.{decimal, Puts};
 
 use flash::LARGEST;
 use std::io;
@@ -34,11 +34,9 @@ impl<'a, P: Print> Output<'a, P> {
     // Puts a piece behind what stands there.
     fn append(&mut self, piece: &[u8])
         requires { self.old.len + length piece.now ≤ largest }
+        ensures { Puts self.old.text self.old.len piece.now self.new.text self.new.len }
     {
-        let at = self.len;
-        let end = at + piece.len();
-        self.text[at..end].copy_from_slice(piece);
-        self.len = end;
+        self.len = text::put_bytes(&mut self.text, self.len, piece);
     }
 
     // Writes what stands there. The buffer is empty then, also where the write failed, so that nothing is written twice.
