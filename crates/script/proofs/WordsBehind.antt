@@ -1,15 +1,20 @@
 -- Laws of what stands behind a space: a word that is expected, and a number.
-use mathlib.Core.Path.{◌≡◌, sym, ap, ◌∙◌}
-use mathlib.Core.Bool.{true, false}
+use mathlib.Core.Path.{◌≡◌, refl, sym, ap, ◌∙◌}
+use mathlib.Core.Bool.{Bool, true, false, ◌&&◌}
 use mathlib.Core.List.{List}
-use Prim.Native.Nat.{ℕ, ◌+◌, ◌-◌}
-use lib.ListN.{take, drop}
-use Rattle.std.specs.Prelude.{Some, None}
+use Prim.Native.Nat.{ℕ, ◌+◌, ◌-◌, ◌≤◌}
+use native.Mathlib.Omega.{arith}
+use lib.Dec.{eqb, leb}
+use lib.ListN.{length, take, drop}
+use borrow.Author.Tests.{leb-true}
+use Rattle.std.specs.Prelude.{Option, Some, None}
+use Rattle.basics.specs.Choice.{pick}
 use Rattle.basics.specs.Lists.{same}
-use Rattle.basics.proofs.ChoiceLaws.{fails}
+use Rattle.basics.proofs.ChoiceLaws.{second, fails}
 use Rattle.basics.proofs.ListsLaws.{same_refl, same_eq}
-use Rattle.script.specs.Words.{word_at, end_behind, skip_of}
-use Rattle.script.specs.Decimals.{amount_of, taken_at, number_at}
+use Rattle.text.specs.Text.{value_from}
+use Rattle.script.specs.Words.{space, space_at, word_at, end_of, end_behind, skip_of}
+use Rattle.script.specs.Decimals.{all_digits, amount_from, amount_of, taken_at, number_at}
 use Rattle.script.proofs.WordsEnds.{no_word, word_space, word_end, word_part}
 
 module _ (word : List ℕ) (at : ℕ) (text : List ℕ) where
@@ -50,3 +55,36 @@ module _ (most at : ℕ) (text : List ℕ) where
     number_refused e = number_here ∙ ap (taken_at to) e
 
 pub ruleset number_laws = (number_none, number_taken, number_refused)
+
+-- a number that is read is within its limit
+amount_fits : (most v : ℕ) (word : List ℕ) → amount_of most word ≡ Some v → v ≤ most
+unfolding amount_of amount_from
+amount_fits most v word = go (eqb (length word) 0)
+  where
+    fits : (t : Bool) → t ≡ (all_digits word && leb (value_from 0 word) most) → pick t (Some (value_from 0 word)) None ≡ Some v → v ≤ most
+    fits true t e =
+        let is : value_from 0 word ≡ v = cc in
+        omega (arith, leb-true (value_from 0 word) most (second (all_digits word) (leb (value_from 0 word) most) (sym t)))
+    fits false t e = cc
+
+    go : (t : Bool) → pick t None (pick (all_digits word && leb (value_from 0 word) most) (Some (value_from 0 word)) None) ≡ Some v → v ≤ most
+    go true e = cc
+    go false e = fits (all_digits word && leb (value_from 0 word) most) refl e
+
+-- the number of what was taken, 0 where nothing was
+abbrev taken_value : Option (ℕ × ℕ) → ℕ
+taken_value (Some taken) = taken.0
+taken_value None = 0
+
+pub number_fits : (most at v next : ℕ) (text : List ℕ) → number_at most at text ≡ Some (v, next) → v ≤ most
+unfolding number_at
+number_fits most at v next text = go (space_at at text) (amount_of most (word_at (at + 1) text)) refl
+  where
+    held : (a : Option ℕ) → a ≡ amount_of most (word_at (at + 1) text) → taken_at (end_of space (at + 1) text) a ≡ Some (v, next) → v ≤ most
+    held (Some w) a e = let is : w ≡ v = ap taken_value e in amount_fits most v (word_at (at + 1) text) (sym a ∙ ap Some is)
+    held None a e = cc
+
+    go : (t : Bool) (a : Option ℕ) → a ≡ amount_of most (word_at (at + 1) text)
+        → pick t (taken_at (end_of space (at + 1) text) a) None ≡ Some (v, next) → v ≤ most
+    go true a h e = held a h e
+    go false a h e = cc
