@@ -6,4 +6,4 @@ use Rattle.list.proofs.put_records.Given as goal
 
 abbrev pub invariant-loop-r : goal.invariant-loop-r
 invariant-loop-r l =
-    Begun l.fn.out l.at (record_lines (take l.count l.fn.table)) (record_lines (drop l.r-index (take l.count l.fn.table))) l.out l.to
+    Begun l.fn.out l.at (record_lines (take l.count l.fn.table)) (record_lines (drop l.r-index l.r-items)) l.out l.to
